@@ -1,0 +1,7 @@
+// Examples of what the layers do, as tests.
+#[cfg(test)]
+mod faults_tests;
+#[cfg(test)]
+mod quantities_tests;
+#[cfg(test)]
+mod words_tests;

@@ -1,0 +1,2 @@
+pub mod CountsLaw
+pub mod InterlocksLaw

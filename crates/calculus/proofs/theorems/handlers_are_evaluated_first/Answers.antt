@@ -1,0 +1,6 @@
+-- An instance is resumed only when the instance and all its handlers are values.
+use Rattle.calculus.proofs.theorems.handlers_are_evaluated_first.Needs as need
+use Rattle.calculus.proofs.Misreadings.{handlers-first}
+
+pub returns : need.returns
+returns c = handlers-first

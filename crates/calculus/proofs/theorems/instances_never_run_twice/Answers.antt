@@ -1,0 +1,6 @@
+-- While an instance executes, a resume of it applies the fourth part to unit.
+use Rattle.calculus.proofs.theorems.instances_never_run_twice.Needs as need
+use Rattle.calculus.proofs.Misreadings.{never-twice}
+
+pub returns : need.returns
+returns c = never-twice

@@ -1,0 +1,6 @@
+-- Replacing a name by a closed value, or by a closed fix term, keeps type and yield type.
+use Rattle.calculus.proofs.theorems.replacement_keeps_types.Needs as need
+use Rattle.calculus.proofs.Replacement.{replacement}
+
+pub returns : need.returns
+returns c = replacement

@@ -1,0 +1,6 @@
+-- A step keeps types and yield types; rows of bindings only grow at the end.
+use Rattle.calculus.proofs.theorems.steps_keep_types.Needs as need
+use Rattle.calculus.proofs.Preservation.{preservation}
+
+pub returns : need.returns
+returns c = preservation

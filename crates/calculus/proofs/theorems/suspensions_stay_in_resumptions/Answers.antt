@@ -1,0 +1,6 @@
+-- A suspension never climbs past a resumption.
+use Rattle.calculus.proofs.theorems.suspensions_stay_in_resumptions.Needs as need
+use Rattle.calculus.proofs.Misreadings.{confinement}
+
+pub returns : need.returns
+returns c = confinement

@@ -1,0 +1,23 @@
+-- The definitions, from terms to the lists of promises.
+pub mod Lists
+pub mod Terms
+pub mod Replacement
+pub mod Parts
+pub mod Occurrences
+pub mod Rows
+pub mod Typing
+pub mod Judgement
+pub mod Configurations
+pub mod Frames
+pub mod Places
+pub mod Lines
+pub mod Steps
+pub mod Views
+pub mod Redexes
+pub mod Next
+pub mod Shape
+pub mod Resumptions
+pub mod Soundness
+pub mod Histories
+pub mod Statements
+pub mod StatementsOfPlaces

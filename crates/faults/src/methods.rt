@@ -13,14 +13,15 @@ impl Fault {
     pub fn new(number: FaultNumber, place: usize) -> Fault
         ensures { λ r. ⌜ r ≡ faultOf number place ⌝ }
     {
-        make(number, place)
+        Fault { number, place }
     }
 
     // The layer that refused.
     pub fn layer(self) -> Layer
         ensures { λ r. ⌜ r ≡ layerOf (self .number) ⌝ }
     {
-        self.layer
+        let Fault { number, .. } = self;
+        number.layer()
     }
 
     // Why it refused.
@@ -35,17 +36,6 @@ impl Fault {
         ensures { λ r. ⌜ r ≡ self .place ⌝ }
     {
         self.place
-    }
-}
-
-fn make(number: FaultNumber, place: usize) -> Fault
-    ensures number { λ r. ⌜ r .number ≡ number ⌝ }
-    ensures place { λ r. ⌜ r .place ≡ place ⌝ }
-{
-    Fault {
-        layer: number.layer(),
-        number,
-        place,
     }
 }
 

@@ -16,7 +16,7 @@ pub struct Signature {
 
 // A quantity set answers by its meaning, a table of three questions, and its meaning keeps the law.
 pub trait QuantitySet {
-    // How many base types the set has; each set answers `bases` by it.
+    // How many base types the set has; the delivered sets answer `bases` by it.
     const K: u8;
 
     ghost meaning: { Meaning };

@@ -17,6 +17,15 @@ pub trait Entry: Copy {
         ensures { λ r. ⌜ r ≡ blank ⌝ };
 }
 
+// A byte is an entry; the blank one is 0.
+pub impl Entry for u8 as ByteEntry {
+    ghost blank = { 0 };
+
+    fn blank() -> u8 {
+        u8::MIN
+    }
+}
+
 // Makes every slot blank.
 pub fn clear<T: Entry>(slots: &mut [T])
     ensures { λ _. ⌜ now (slots .exit) ≡ replicate (length (now (slots .entry))) blank ⌝ }
@@ -101,6 +110,13 @@ impl<'a, T: Entry> Stack<'a, T> {
             return None;
         }
         Some(get(&*self.slots, self.len - 1))
+    }
+
+    // How many entries there are.
+    pub fn len(&self) -> usize
+        ensures { λ r. ⌜ r ≡ length (entries (now (now (self .entry) .slots)) (now (self .entry) .len)) ⌝ }
+    {
+        self.held().len()
     }
 
     // The entries, the oldest first.

@@ -9,7 +9,7 @@ use Rattle.std.specs.declared.option.Option.the-variants.{Some}
 use Rattle.calculus.specs.Lists.{at, put, Prefix}
 use Rattle.calculus.specs.Rows.{Setting}
 use Rattle.calculus.specs.Configurations.{Binding, empty, ready, row-of, Bindings, rows}
-use Rattle.calculus.specs.Soundness.{BodyTyped, BindingTyped, BindingsTyped}
+use Rattle.calculus.specs.WellTyped.{BodyTyped, BindingTyped, BindingsTyped}
 use Rattle.calculus.proofs.Weakening.{Longer, weaken, wider-refl}
 
 module _ {A : Type 0} where

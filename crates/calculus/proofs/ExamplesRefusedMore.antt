@@ -83,10 +83,23 @@ third-handler-yields-another :
 unfolding judge
 third-handler-yields-another = refl
 
+-- where the handlers are silent, no part yields
+resumed-part-yields-under-silent-handlers :
+    Refused (resume (once-yielded to-instance same-unit new-instance) (handler silent-of-count) (handler silent-of-truth)
+    (handler silent-of-unit))
+unfolding judge
+resumed-part-yields-under-silent-handlers = refl
+
 -- the instance's own yield type is not that of its resume
 resumed-part-yields-the-instances : Refused (with-handlers (once-yielded to-instance true-value new-instance))
 unfolding judge
 resumed-part-yields-the-instances = refl
+
+resumed-part-yields-the-instances-under-silent-handlers :
+    Refused (resume (once-yielded to-instance true-value new-instance) (handler silent-of-count) (handler silent-of-truth)
+    (handler silent-of-unit))
+unfolding judge
+resumed-part-yields-the-instances-under-silent-handlers = refl
 
 -- atoms and operations
 count-too-large : Refused (atom 0 65536)

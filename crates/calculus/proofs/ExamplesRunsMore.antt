@@ -2,47 +2,61 @@
 use Prim.Native.Nat.{ℕ}
 use mathlib.Core.Path.{_≡_, refl}
 use mathlib.Core.List.{[], _∷_}
-use Rattle.calculus.specs.Terms.{Term, unit, variable, abstraction, coroutine, application, yield, start, snapshot, fix, atom, operation, instance, suspension}
-use Rattle.calculus.specs.Judgement.{judge}
+use Rattle.calculus.specs.Terms.{Term, unit, variable, abstraction, coroutine, application, yield, start, fix, atom, operation, instance, suspension}
+use Rattle.calculus.specs.Judgement.{judged, judge}
 use Rattle.calculus.specs.Configurations.{empty, ready, _∣_}
 use Rattle.calculus.specs.Next.{next}
 use Rattle.calculus.proofs.ExamplesTables.{count→count, unit⇝count⇝unit, count⇝count⇝unit, count⇝unit, instance→count, counter→counter}
-use Rattle.calculus.proofs.ExamplesTerms.{_has_yielding_, _steps-to_, after, five, same-unit, same-count, waiting, on-yield, resume-once, executing, with-name}
+use Rattle.calculus.proofs.ExamplesTerms.{_has_yielding_, judge-running, _steps-to_, after, five, same-unit, same-count, waiting, on-yield, resume-once, executing, with-name}
 
--- A yield under three calls: it climbs one level a step, and is caught by the resumption.
+-- A yield under three calls, of a function, a coroutine and a function: it climbs one level a step, and is caught by the resumption.
+abbrev same-again : Term
+same-again = coroutine 0 unit⇝count⇝unit (variable 0)
+
 abbrev three-calls : Term → Term
-three-calls t = application same-unit (operation 0 five (snapshot t))
+three-calls t = application same-unit (application same-again (application same-unit t))
+
+three-calls-judged : three-calls (yield five) has 0 yielding 2
+unfolding judge
+three-calls-judged = refl
+
+three-calls-executing-judged : judge-running (executing 0 (three-calls (yield five))) ≡ judged 2 1
+unfolding judge
+three-calls-executing-judged = refl
 
 yield-suspends-in-place :
-    executing 0 (three-calls (yield five)) ∣ empty 9 ∷ [] steps-to executing 0 (three-calls waiting) ∣ empty 9 ∷ []
+    executing 0 (three-calls (yield five)) ∣ empty count⇝unit ∷ [] steps-to executing 0 (three-calls waiting) ∣ empty count⇝unit ∷ []
 unfolding next
 yield-suspends-in-place = refl
 
 climbs-out-of-the-first :
-    after 2 (executing 0 (three-calls (yield five)) ∣ empty 9 ∷ []) ≡
-    (executing 0 (application same-unit (operation 0 five (suspension (snapshot unit) five))) ∣ empty 9 ∷ [])
+    after 2 (executing 0 (three-calls (yield five)) ∣ empty count⇝unit ∷ []) ≡
+    (executing 0 (application same-unit (application same-again (suspension (application same-unit unit) five))) ∣ empty count⇝unit ∷ [])
 unfolding next
 climbs-out-of-the-first = refl
 
 climbs-out-of-the-second :
-    after 3 (executing 0 (three-calls (yield five)) ∣ empty 9 ∷ []) ≡
-    (executing 0 (application same-unit (suspension (operation 0 five (snapshot unit)) five)) ∣ empty 9 ∷ [])
+    after 3 (executing 0 (three-calls (yield five)) ∣ empty count⇝unit ∷ []) ≡
+    (executing 0 (application same-unit (suspension (application same-again (application same-unit unit)) five)) ∣ empty count⇝unit ∷ [])
 unfolding next
 climbs-out-of-the-second = refl
 
 climbs-out-of-the-third :
-    after 4 (executing 0 (three-calls (yield five)) ∣ empty 9 ∷ []) ≡ (executing 0 (suspension (three-calls unit) five) ∣ empty 9 ∷ [])
+    after 4 (executing 0 (three-calls (yield five)) ∣ empty count⇝unit ∷ []) ≡
+    (executing 0 (suspension (three-calls unit) five) ∣ empty count⇝unit ∷ [])
 unfolding next
 climbs-out-of-the-third = refl
 
 is-caught :
-    after 5 (executing 0 (three-calls (yield five)) ∣ empty 9 ∷ []) ≡ (application on-yield five ∣ ready 9 (three-calls unit) ∷ [])
+    after 5 (executing 0 (three-calls (yield five)) ∣ empty count⇝unit ∷ []) ≡
+    (application on-yield five ∣ ready count⇝unit (three-calls unit) ∷ [])
 unfolding next
 is-caught = refl
 
 -- what is around the resumption does not move
 around-it-stays :
-    after 6 (yield (executing 0 (three-calls (yield five))) ∣ empty 9 ∷ []) ≡ (yield five ∣ ready 9 (three-calls unit) ∷ [])
+    after 6 (yield (executing 0 (three-calls (yield five))) ∣ empty count⇝unit ∷ []) ≡
+    (yield five ∣ ready count⇝unit (three-calls unit) ∷ [])
 unfolding next
 around-it-stays = refl
 

@@ -123,6 +123,9 @@ coroutine→coroutine = 39
 abbrev pub counter→counter : ℕ
 counter→counter = 40
 
+abbrev pub ⊥→⊥ : ℕ
+⊥→⊥ = 41
+
 abbrev later : List Row
 later =
     function-type 0 0
@@ -162,6 +165,7 @@ later =
     ∷ function-type count⇝unit 2
     ∷ function-type unit⇝count⇝unit unit⇝count⇝unit
     ∷ function-type count⇝count⇝unit count⇝count⇝unit
+    ∷ function-type 1 1
     ∷ []
 
 abbrev pub many-rows : Setting

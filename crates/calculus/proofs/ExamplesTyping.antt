@@ -1,10 +1,10 @@
 -- Programs that the judgement accepts, with their type and least yield type.
 use mathlib.Core.Path.{_≡_, refl}
 use mathlib.Core.List.{[]}
-use Rattle.calculus.specs.Terms.{unit, variable, abstraction, coroutine, application, yield, start, atom, operation}
+use Rattle.calculus.specs.Terms.{unit, variable, abstraction, coroutine, application, yield, start, fix, atom, operation}
 use Rattle.calculus.specs.Typing.{bind}
 use Rattle.calculus.specs.Judgement.{judged, judge}
-use Rattle.calculus.proofs.ExamplesTables.{unit→unit, unit→count, count→count, unit⇝count⇝unit, unit⇝⊥⇝unit, unit⇝⊥⇝count, count⇝unit, unit→function, count→constant, to-function, to-coroutine, many-rows}
+use Rattle.calculus.proofs.ExamplesTables.{unit→unit, unit→count, count→count, unit⇝count⇝unit, unit⇝⊥⇝unit, unit⇝⊥⇝count, count⇝unit, unit→function, count→constant, to-function, to-coroutine, ⊥→⊥, many-rows}
 use Rattle.calculus.proofs.ExamplesTerms.{_has_yielding_, once-yielded, five, true-value, same-unit, yields-five, silent}
 
 -- unit and variables
@@ -111,6 +111,11 @@ yield-of-a-truth-value = refl
 yield-of-a-function : yield same-unit has 0 yielding unit→unit
 unfolding judge
 yield-of-a-function = refl
+
+-- a term of type ⊥ has no value, so its yield is never made; the yield type is ⊥
+yield-of-bottom : yield (fix (abstraction 0 ⊥→⊥ (variable 0))) has 0 yielding 1
+unfolding judge
+yield-of-bottom = refl
 
 yield-of-a-yield : yield (yield unit) has 0 yielding 0
 unfolding judge

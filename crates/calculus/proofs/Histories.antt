@@ -1,4 +1,4 @@
--- In every history of a typed program the configuration stays sound and of good shape.
+-- In every history of a typed program the configuration stays well typed and of good shape.
 use Prim.Native.Nat.{ℕ}
 use native.Mathlib.Omega.{arith}
 use mathlib.Core.Path.{_≡_}
@@ -7,14 +7,13 @@ use Rattle.calculus.specs.Terms.{Term, unit, variable, abstraction, coroutine,
 use Rattle.calculus.specs.Rows.{Setting, WellFormed}
 use Rattle.calculus.specs.Typing.{Typed}
 use Rattle.calculus.specs.Configurations.{Bindings, Configured}
+use Rattle.calculus.specs.Places.{path}
 use Rattle.calculus.specs.Shape.{Plain, p-plain, Shaped}
-use Rattle.calculus.specs.Soundness.{Sound}
-use Rattle.calculus.specs.Histories.{History, opened, stepped, taken}
+use Rattle.calculus.specs.WellTyped.{WellTyped}
+use Rattle.calculus.specs.Histories.{History, at-once, then-step, then-take}
 use Rattle.calculus.specs.Statements.{Always}
-use Rattle.calculus.proofs.Inversion.{inverse}
-use Rattle.calculus.proofs.Frames.{raise}
 use Rattle.calculus.proofs.Growth.{grows}
-use Rattle.calculus.proofs.Preservation.{keeps-sound}
+use Rattle.calculus.proofs.Preservation.{keeps-well-typed, take-well-typed}
 use Rattle.calculus.proofs.Configured.{keeps-configured, take-configured, program-configured}
 use Rattle.calculus.proofs.Resumptions.{resumptions-on-path}
 use Rattle.calculus.proofs.ShapeKept.{keeps-shape, take-shape}
@@ -38,35 +37,34 @@ program-plain (resumption l a b c d) p = absurd p
 program-plain (suspension t v) p = absurd p
 
 module _ (S : Setting) (L : WellFormed S) where
-  take-sound : {t v : Term} {μ : Bindings} {T Y : ℕ} → Sound S (suspension t v) μ T Y → Sound S t μ T Y
-  take-sound h = let i = inverse (h .typed) in record { typed = raise (i .reads) (i .rule .suspended); bindings-typed = h .bindings-typed }
-
   module _ (p : Term) (prog : Program p) (T Y : ℕ) (d : Typed S [] [] p T Y) where
-    start-sound : Sound S p [] T Y
-    start-sound = record { typed = d; bindings-typed = record { each = λ l β e. let z : _≡_ {A = ℕ} 0 1 = cc in absurd (omega arith) } }
+    start-well-typed : WellTyped S p [] T Y
+    start-well-typed =
+        record { typed = d; bindings-typed = record { each = λ l β e. let z : _≡_ {A = ℕ} 0 1 = cc in absurd (omega arith) } }
 
     start-shape : Shaped p []
     start-shape = record {
       labels = [];
-      live = p-plain (program-plain p prog);
+      active = p-plain (program-plain p prog);
       distinct = tt;
       empties = tt;
       bodies = record { plain = λ l i t e. let z : _≡_ {A = ℕ} 0 1 = cc in absurd (omega arith) };
     }
 
-    kept : {t : Term} {μ : Bindings} → History (S .set) p t μ → Sound S t μ T Y × Shaped t μ × Configured t μ
-    kept opened = (start-sound, start-shape, program-configured p prog)
-    kept (stepped h s) = let k = kept h in (keeps-sound L s (k .0) .0, keeps-shape s (k .1), keeps-configured (k .2) s)
-    kept (taken h) = let k = kept h in (take-sound (k .0), take-shape (k .1), take-configured (k .2))
+    kept : {t : Term} {μ : Bindings} → History (S .set) p t μ → WellTyped S t μ T Y × Shaped t μ × Configured t μ
+    kept at-once = (start-well-typed, start-shape, program-configured p prog)
+    kept (then-step h s) = let k = kept h in (keeps-well-typed L s (k .0) .0, keeps-shape s (k .1), keeps-configured (k .2) s)
+    kept (then-take h) = let k = kept h in (take-well-typed (k .0), take-shape (k .1), take-configured (k .2))
 
 pub always : Always
 always S L p g T Y d t μ h =
     let k = kept S L p g T Y d h in
+    let q = resumptions-on-path t μ (k .1) in
     record {
       configured = k .2;
-      sound = k .0;
+      well-typed = k .0;
       shaped = k .1;
-      resumptions = resumptions-on-path t μ (k .1);
-      outcome = outcome S L t μ T Y (k .0) (k .1);
+      resumptions = q;
+      outcome = outcome S L t μ T Y (k .0) (λ l r. q .binding-empty (path t) l r);
       growth = λ t′ μ′ s. grows s;
     }

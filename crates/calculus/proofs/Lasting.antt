@@ -10,7 +10,7 @@ use Rattle.calculus.specs.Lists.{Prefix}
 use Rattle.calculus.specs.Terms.{Term}
 use Rattle.calculus.specs.Configurations.{row-of, Bindings, rows}
 use Rattle.calculus.specs.Steps.{Step, Growth, same-rows, one-more}
-use Rattle.calculus.specs.Histories.{History, stepped, taken, Later, at-once, then-step, then-take, Added, Lasts}
+use Rattle.calculus.specs.Histories.{Later, at-once, then-step, then-take, Added, Lasts}
 use Rattle.calculus.specs.StatementsOfPlaces.{Lasting}
 use Rattle.calculus.proofs.Rows.{row}
 use Rattle.calculus.proofs.Bindings.{at-last, at-rows, at-unrows, grown-longer, grown-same}
@@ -112,10 +112,5 @@ module _ {Q : Meaning} where
     others-added = added h;
   }
 
-  history : {p t : Term} {μ : Bindings} {t′ : Term} {μ′ : Bindings} → History Q p t μ → Later Q t μ t′ μ′ → History Q p t′ μ′
-  history h at-once = h
-  history h (then-step k s) = stepped (history h k) s
-  history h (then-take k) = taken (history h k)
-
 pub lasting : Lasting
-lasting Q p t t′ μ μ′ h k = (history h k, lasts k)
+lasting Q p t t′ μ μ′ h k = (later-still h k, lasts k)

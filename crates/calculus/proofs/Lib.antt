@@ -3,7 +3,7 @@ pub mod Tests
 mod Weakening
 mod Inversion
 mod Substitution
-mod Rows
+pub mod Rows
 mod StepIsNext
 mod Occurrences
 mod PathFrames
@@ -25,6 +25,8 @@ mod Plain
 mod LiveFrames
 mod Active
 mod PlainParts
+mod LineCases
+mod Stuck
 pub mod Resumptions
 pub mod PathEntered
 pub mod Words
@@ -55,3 +57,4 @@ mod ExamplesStill
 mod ExamplesNames
 mod ExamplesRuns
 mod ExamplesRunsMore
+mod ExamplesShape

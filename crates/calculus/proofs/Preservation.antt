@@ -13,7 +13,7 @@ use Rattle.calculus.specs.Typing.{InScope, Reads, as-is, raised, Typed, t-any-
 use Rattle.calculus.specs.Configurations.{Binding, empty, ready, row-of, Bindings, rows}
 use Rattle.calculus.specs.Lines.{e-pause, e-apply, e-apply-coroutine, e-fix, e-yield, e-start, e-resume-ready, e-resume-empty, e-capture, e-terminate, e-snapshot, e-operate}
 use Rattle.calculus.specs.Steps.{Step, line, e-context, e-executing}
-use Rattle.calculus.specs.Soundness.{BindingsTyped, Sound}
+use Rattle.calculus.specs.WellTyped.{BindingsTyped, WellTyped}
 use Rattle.calculus.specs.Statements.{Preservation}
 use Rattle.calculus.proofs.Weakening.{longer-refl}
 use Rattle.calculus.proofs.Inversion.{Takes, inverse}
@@ -185,10 +185,14 @@ module _ {S : Setting} (L : WellFormed S) where
       let c = closed L _ _ e in
       stay st (t-any-yield (yield-row d) (retype (ap (λ x. suc (suc (x .result))) z ∙ sym (u .type-is)) (t-atom (c .2) (c .3 _ _ p q))))
 
-  pub keeps-sound : {t t′ : Term} {μ μ′ : Bindings} {T Y : ℕ} → Step (S .set) t μ t′ μ′ → Sound S t μ T Y →
-      Sound S t′ μ′ T Y × Prefix (rows μ) (rows μ′)
-  keeps-sound s h =
+  pub keeps-well-typed : {t t′ : Term} {μ μ′ : Bindings} {T Y : ℕ} → Step (S .set) t μ t′ μ′ → WellTyped S t μ T Y →
+      WellTyped S t′ μ′ T Y × Prefix (rows μ) (rows μ′)
+  keeps-well-typed s h =
       let a = preserve (h .bindings-typed) s (h .typed) in (record { typed = a .typed; bindings-typed = a .bindings-typed }, a .grown)
 
+pub take-well-typed : {S : Setting} {t v : Term} {μ : Bindings} {T Y : ℕ} → WellTyped S (suspension t v) μ T Y → WellTyped S t μ T Y
+take-well-typed h =
+    let i = inverse (h .typed) in record { typed = raise (i .reads) (i .rule .suspended); bindings-typed = h .bindings-typed }
+
 pub preservation : Preservation
-preservation S L t t′ μ μ′ T Y h s = (keeps-sound L s h .0, grows s)
+preservation = (λ S L t t′ μ μ′ T Y h s. (keeps-well-typed L s h .0, grows s), λ S u v μ T Y h. take-well-typed h)

@@ -21,4 +21,4 @@ quiet-source {S} {Σ} {s} {A} {Z} (inr e) d = rw (e .1) (fixed (subst (λ w. Typ
     fixed d = let u = inverse d .rule in t-fix (u .row-is) (u .function)
 
 pub replacement : Replacement
-replacement S Σ x A Z s t T Y k d e = substitution (quiet-source k d) e
+replacement S Σ Γ x A Z s t T Y k d e = substitution (quiet-source k d) e

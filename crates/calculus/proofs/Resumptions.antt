@@ -104,11 +104,11 @@ same-spot ps m n p q e f g = cc
 
 pub resumptions-on-path : Resumptions-on-path
 resumptions-on-path t μ h = record {
-  on-path = λ p l r. found (h .live) p l r .on-path;
+  on-path = λ p l r. found (h .active) p l r .on-path;
   one-each = λ p q l r s.
-      let a = found (h .live) p l r in let b = found (h .live) q l s in
-      same-spot (spots (h .live)) (a .index) (b .index) p q (one-index (h .labels) (a .index) (b .index) l (h .distinct) (a .label-is)
+      let a = found (h .active) p l r in let b = found (h .active) q l s in
+      same-spot (spots (h .active)) (a .index) (b .index) p q (one-index (h .labels) (a .index) (b .index) l (h .distinct) (a .label-is)
       (b .label-is)) (a .spot-is) (b .spot-is);
-  binding-empty = λ p l r. let a = found (h .live) p l r in empty-one μ (h .labels) (a .index) l (h .empties) (a .label-is);
+  binding-empty = λ p l r. let a = found (h .active) p l r in empty-one μ (h .labels) (a .index) l (h .empties) (a .label-is);
   not-in-bodies = λ l i b e p k r. plain-none p b (h .bodies .plain l i b e) r;
 }

@@ -12,6 +12,7 @@ use Rattle.calculus.specs.Lists.{at}
 use Rattle.calculus.specs.Terms.{Term}
 use Rattle.calculus.specs.Rows.{Row, Setting, IsRow, Is, WellFormed}
 use Rattle.calculus.specs.Typing.{Scope, InScope, Typed, t-any-yield, t-unit, t-variable, t-abstraction, t-coroutine, t-apply, t-apply-coroutine, t-yield, t-start, t-resume, t-snapshot, t-fix, t-atom, t-operation, t-instance, t-resumption, t-suspension}
+use Rattle.calculus.specs.Statements.{Rows-of-the-table}
 
 pub at-lt : {A : Type 0} (xs : List A) (n : ℕ) {x : A} → at xs n ≡ Some x → n < length xs
 at-lt [] n e = let z : _≡_ {A = ℕ} 0 1 = cc in omega arith
@@ -53,3 +54,6 @@ module _ {S : Setting} (L : WellFormed S) where
   regular g (t-instance e i) = (row i, one)
   regular g (t-resumption e i r₂ r₃ r₄ a b c d) = let b = L .table-formed .earlier _ _ r₂ in let n = row r₂ in (omega arith, omega arith)
   regular g (t-suspension h d v) = regular g d
+
+pub rows-of-the-table : Rows-of-the-table
+rows-of-the-table S L Σ Γ g t T Y d = regular L g d

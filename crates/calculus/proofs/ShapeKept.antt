@@ -102,11 +102,11 @@ module _ {Q : Meaning} where
 
   pub keeps-shape : {t t′ : Term} {μ μ′ : Bindings} → Step Q t μ t′ μ′ → Shaped t μ → Shaped t′ μ′
   keeps-shape {t′ = t′} s h =
-      let a = lives (h .labels) (h .bodies) s (on→live (h .live)) in let k = turned (a .turn) (h .distinct) (h .empties) in
-      record { labels = a .labels; live = live→on t′ (a .labels) (a .live); distinct = k .0; empties = k .1; bodies = a .bodies }
+      let a = lives (h .labels) (h .bodies) s (on→live (h .active)) in let k = turned (a .turn) (h .distinct) (h .empties) in
+      record { labels = a .labels; active = live→on t′ (a .labels) (a .live); distinct = k .0; empties = k .1; bodies = a .bodies }
 
 pub take-shape : {t v : Term} {μ : Bindings} → Shaped (suspension t v) μ → Shaped t μ
-take-shape {t} h = record { labels = []; live = p-plain (on→live (h .live) .1); distinct = tt; empties = tt; bodies = h .bodies }
+take-shape {t} h = record { labels = []; active = p-plain (on→live (h .active) .1); distinct = tt; empties = tt; bodies = h .bodies }
 
 pub shape-kept : Shape-kept
 shape-kept Q t μ h = (λ t′ μ′ s. keeps-shape s h, λ u v e. take-shape (subst (λ w. Shaped w μ) e h))

@@ -4,7 +4,7 @@ use mathlib.Core.Path.{_≡_, refl, sym, subst}
 use mathlib.Core.Bool.{Bool, true, false, cond}
 use mathlib.Core.List.{List, []}
 use lib.Dec.{eqb}
-use Rattle.std.specs.declared.option.Option.the-variants.{Some, None}
+use Rattle.std.specs.declared.option.Option.the-variants.{Some}
 use Rattle.calculus.specs.Terms.{Term, unit, variable, abstraction, coroutine, application, yield, start, resume, snapshot, fix, atom, operation, instance, resumption, suspension, isValue}
 use Rattle.calculus.specs.Replacement.{replace}
 use Rattle.calculus.specs.Rows.{Setting}
@@ -89,17 +89,17 @@ module _ {S : Setting} {Σ : List ℕ} {x A : ℕ} {s : Term} (ds : Typed S Σ [
       t-resumption e i r₂ r₃ r₄ (replaced w a) (replaced w b) (replaced w c) (replaced w d)
   replaced w (t-suspension {v = v} h d e) = t-suspension (replace-value x s v h) (replaced w d) (replaced w e)
 
-  only : Without x A (bind x A []) []
-  only = record { other = λ n T q. other n T (eqb n x) q; that = λ n T q. that n T (eqb n x) q }
+  innermost : {Γ : Scope} → Without x A (bind x A Γ) Γ
+  innermost {Γ} = record { other = λ n T q. other n T (eqb n x) q; that = λ n T q. that n T (eqb n x) q }
     where
-      other : (n T : ℕ) (b : Bool) → b ≡ false → cond b (Some A) None ≡ Some T → None ≡ Some T
+      other : (n T : ℕ) (b : Bool) → b ≡ false → cond b (Some A) (look Γ n) ≡ Some T → look Γ n ≡ Some T
       other n T true q e = cc
       other n T false q e = e
 
-      that : (n T : ℕ) (b : Bool) → b ≡ true → cond b (Some A) None ≡ Some T → T ≡ A
+      that : (n T : ℕ) (b : Bool) → b ≡ true → cond b (Some A) (look Γ n) ≡ Some T → T ≡ A
       that n T true q e = cc
       that n T false q e = cc
 
-  -- the substitution lemma, as the steps use it
-  pub substitution : {t : Term} {T Y : ℕ} → Typed S Σ (bind x A []) t T Y → Typed S Σ [] (replace x s t) T Y
-  substitution d = replaced only d
+  -- the substitution lemma, for the innermost name
+  pub substitution : {Γ : Scope} {t : Term} {T Y : ℕ} → Typed S Σ (bind x A Γ) t T Y → Typed S Σ Γ (replace x s t) T Y
+  substitution d = replaced innermost d

@@ -9,8 +9,10 @@ use Rattle.calculus.specs.Lists.{at}
 use Rattle.calculus.specs.Terms.{Term, unit, variable, abstraction, coroutine, application, yield, start, resume, snapshot, fix, atom, operation, instance, resumption, suspension}
 use Rattle.calculus.specs.Parts.{parts, size, sizes}
 use Rattle.calculus.specs.Occurrences.{Position, term-at, word-at}
+use Rattle.calculus.specs.Places.{path, place}
 use Rattle.calculus.specs.StatementsOfPlaces.{Words-within}
 use Rattle.calculus.proofs.Occurrences.{in-part, word-part}
+use Rattle.calculus.proofs.PathEntered.{path-entered}
 
 pub size-parts : (t : Term) → size t ≡ suc (sizes (parts t))
 size-parts unit = refl
@@ -80,5 +82,14 @@ one-occurrence (j ∷ p) (k ∷ q) t u v e f h =
     same-part t (a .0) (b .0) j k p q (a .1) (b .1) (starts-in p (a .0) u (a .2)) (starts-in q (b .0) v (b .2)) (omega arith)
     λ z w. one-occurrence p q (a .0) u v (a .2) (ap (λ r. term-at r q) z ∙ b .2) (w ∙ ap (λ r. word-at r q) (sym z))
 
+-- the place of the step is one of the term's words
+place-within : (t : Term) → (1 ≤ place t) × (place t ≤ size t)
+place-within t = let o = path-entered t .2 in let h = starts-in (path t) t (o .0) (o .1) in (omega arith, omega arith)
+
 pub words-within : Words-within
-words-within = (size-parts, λ t u p e. occurrence-within p t u e, λ t u v p q e f h. one-occurrence p q t u v e f h)
+words-within = (
+  size-parts,
+  λ t u p e. occurrence-within p t u e,
+  λ t u v p q e f h. one-occurrence p q t u v e f h,
+  place-within,
+)

@@ -1,4 +1,5 @@
--- Configurations: a term and its bindings, and the rules that both keep.
+-- Configurations: a term and its bindings, and the rules that both keep. A pair of them is a configuration in the full sense when it is
+-- `Configured`.
 use Prim.Native.Nat.{ℕ, _<_}
 use mathlib.Core.Path.{_≡_}
 use mathlib.Core.List.{List, [], _∷_}

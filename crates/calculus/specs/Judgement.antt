@@ -1,5 +1,5 @@
 -- The typing rules as a judgement that can be computed: the type of a term and its least yield type, if it has any.
-use Prim.Native.Nat.{ℕ, suc}
+use Prim.Native.Nat.{ℕ}
 use mathlib.Core.Bool.{Bool, cond, _&&_, _||_}
 use mathlib.Core.List.{List}
 use lib.Dec.{eqb, ltb}
@@ -7,7 +7,7 @@ use Rattle.std.specs.declared.option.Option.{Option}
 use Rattle.std.specs.declared.option.Option.the-variants.{Some, None}
 use Rattle.calculus.specs.Lists.{at}
 use Rattle.calculus.specs.Terms.{Term, unit, variable, abstraction, coroutine, application, yield, start, resume, snapshot, fix, atom, operation, instance, resumption, suspension, isValue}
-use Rattle.calculus.specs.Rows.{Row, unit-type, bottom-type, base-type, function-type, coroutine-type, instance-type, Setting}
+use Rattle.calculus.specs.Rows.{Row, unit-type, bottom-type, base-type, function-type, coroutine-type, instance-type, unit-row, bottom-row, base-row, Setting}
 use Rattle.calculus.specs.Typing.{Scope, bind, look}
 
 -- what is judged of a term: its type and its least yield type
@@ -66,7 +66,7 @@ instance-at S r = and-then (at (S .table) r) as-instance
 
 -- whether the yield type W is Y or ⊥
 abbrev pub reads : ℕ → ℕ → Bool
-reads W Y = eqb W Y || eqb W 1
+reads W Y = eqb W Y || eqb W bottom-row
 
 -- yield types join when they are equal or one is ⊥; the other is then the result
 abbrev pub join : ℕ → ℕ → Option ℕ
@@ -87,23 +87,23 @@ handled S W B j₂ j₃ j₄ =
     and-then (coroutine-at S (j₂ .type)) λ q₂.
     and-then (coroutine-at S (j₃ .type)) λ q₃.
     and-then (coroutine-at S (j₄ .type)) λ q₄.
-    only-if (eqb (q₂ .0) B && eqb (q₃ .0) W && eqb (q₄ .0) 0)
+    only-if (eqb (q₂ .0) B && eqb (q₃ .0) W && eqb (q₄ .0) unit-row)
     (only-if (eqb (q₃ .1) (q₂ .1) && eqb (q₄ .1) (q₂ .1) && eqb (q₃ .2) (q₂ .2) && eqb (q₄ .2) (q₂ .2))
     (only-if (reads (j₂ .yields) (q₂ .1) && reads (j₃ .yields) (q₂ .1) && reads (j₄ .yields) (q₂ .1)) (judged (q₂ .2) (q₂ .1))))
 
 -- The judgement, a line for each rule.
 unfoldable pub judge : Setting → List ℕ → Scope → Term → Option Judgement
-judge S Σ Γ unit = judged 0 1
-judge S Σ Γ (variable n) = and-then (look Γ n) λ T. judged T 1
+judge S Σ Γ unit = judged unit-row bottom-row
+judge S Σ Γ (variable n) = and-then (look Γ n) λ T. judged T bottom-row
 judge S Σ Γ (abstraction x r b) =
     and-then (function-at S r) λ p.
-    and-then (judge S Σ (bind x (p .0) Γ) b) λ j. only-if (eqb (j .type) (p .1) && eqb (j .yields) 1) (judged r 1)
+    and-then (judge S Σ (bind x (p .0) Γ) b) λ j. only-if (eqb (j .type) (p .1) && eqb (j .yields) bottom-row) (judged r bottom-row)
 judge S Σ Γ (coroutine x r b) =
     and-then (coroutine-at S r) λ p.
-    and-then (judge S Σ (bind x (p .0) Γ) b) λ j. only-if (eqb (j .type) (p .2) && reads (j .yields) (p .1)) (judged r 1)
+    and-then (judge S Σ (bind x (p .0) Γ) b) λ j. only-if (eqb (j .type) (p .2) && reads (j .yields) (p .1)) (judged r bottom-row)
 judge S Σ Γ (application f a) =
     and-then (judge S Σ Γ f) λ j. and-then (judge S Σ Γ a) λ k. and-then (at (S .table) (j .type)) λ ty. applying ty j k
-judge S Σ Γ (yield t) = and-then (judge S Σ Γ t) λ j. only-if (reads (j .yields) (j .type)) (judged 0 (j .type))
+judge S Σ Γ (yield t) = and-then (judge S Σ Γ t) λ j. only-if (reads (j .yields) (j .type)) (judged unit-row (j .type))
 judge S Σ Γ (start i f a) =
     and-then (instance-at S i) λ p.
     and-then (judge S Σ Γ f) λ j.
@@ -121,15 +121,15 @@ judge S Σ Γ (resume a b c d) =
 judge S Σ Γ (snapshot t) = and-then (judge S Σ Γ t) λ j. and-then (instance-at S (j .type)) λ p. Some j
 judge S Σ Γ (fix t) =
     and-then (judge S Σ Γ t) λ j.
-    and-then (function-at S (j .type)) λ p. only-if (eqb (p .0) (p .1) && eqb (j .yields) 1) (judged (p .1) 1)
-judge S Σ Γ (atom k p) = only-if (ltb k (S .set .bases) && S .set .holds k p) (judged (suc (suc k)) 1)
+    and-then (function-at S (j .type)) λ p. only-if (eqb (p .0) (p .1) && eqb (j .yields) bottom-row) (judged (p .1) bottom-row)
+judge S Σ Γ (atom k p) = only-if (ltb k (S .set .bases) && S .set .holds k p) (judged (base-row k) bottom-row)
 judge S Σ Γ (operation o a b) =
     and-then (S .set .signature o) λ s.
     and-then (judge S Σ Γ a) λ j.
     and-then (judge S Σ Γ b) λ k.
-    only-if (eqb (j .type) (suc (suc (s .first))) && eqb (k .type) (suc (suc (s .second))))
-    (and-then (join (j .yields) (k .yields)) λ Y. judged (suc (suc (s .result))) Y)
-judge S Σ Γ (instance l r) = and-then (at Σ l) λ i. and-then (instance-at S r) λ p. only-if (eqb i r) (judged r 1)
+    only-if (eqb (j .type) (base-row (s .first)) && eqb (k .type) (base-row (s .second)))
+    (and-then (join (j .yields) (k .yields)) λ Y. judged (base-row (s .result)) Y)
+judge S Σ Γ (instance l r) = and-then (at Σ l) λ i. and-then (instance-at S r) λ p. only-if (eqb i r) (judged r bottom-row)
 judge S Σ Γ (resumption l a b c d) =
     and-then (at Σ l) λ i.
     and-then (instance-at S i) λ p.
@@ -141,4 +141,4 @@ judge S Σ Γ (resumption l a b c d) =
 judge S Σ Γ (suspension t v) =
     and-then (judge S Σ Γ t) λ j.
     and-then (judge S Σ Γ v) λ k.
-    only-if (isValue v && eqb (k .yields) 1 && reads (j .yields) (k .type)) (judged (j .type) (k .type))
+    only-if (isValue v && eqb (k .yields) bottom-row && reads (j .yields) (k .type)) (judged (j .type) (k .type))

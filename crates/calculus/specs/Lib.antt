@@ -17,7 +17,8 @@ pub mod Redexes
 pub mod Next
 pub mod Shape
 pub mod Resumptions
-pub mod Soundness
+pub mod WellTyped
+pub mod Outcomes
 pub mod Histories
 pub mod Statements
 pub mod StatementsOfPlaces

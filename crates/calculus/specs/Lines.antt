@@ -1,4 +1,4 @@
--- The lines of a step: what happens at the place of the step, whatever stands around it.
+-- The lines of a step: what happens at the path's last term, whatever stands around it.
 use Prim.Native.Nat.{ℕ}
 use mathlib.Core.Path.{_≡_}
 use mathlib.Core.Bool.{true}

@@ -24,7 +24,7 @@ moves F (is-atom k p) μ n = within (plug F) n
 moves F (is-suspension t v) μ n = Some (suspension (plug F t) v ∣ μ)
 moves F is-other μ n = within (plug F) n
 
--- the part t has its turn first; where it is a value, the rest has
+-- the part t is looked at first; where it is a value, the rest is
 abbrev pub first : Frame → Term → Bindings → Option Configuration → Option Configuration → Option Configuration
 first F t μ n rest = cond (isValue t) rest (moves F (view t) μ n)
 

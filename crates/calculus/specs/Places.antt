@@ -38,7 +38,7 @@ first-entered (t ∷ ts) =
 abbrev pub enters : Term → Option ℕ
 enters t = first-entered (take (evaluated t) (parts t))
 
--- part k has its turn: where it is a value, the rest has; where it is a suspension, the path ends; else the path enters it and goes on by p
+-- part k is looked at: where it is a value, the rest is; where it is a suspension, the path ends; else the path enters it and goes on by p
 abbrev pub enter : ℕ → Term → Position → Position → Position
 enter k t p rest = cond (isValue t) rest (cond (isSuspension t) [] (k ∷ p))
 

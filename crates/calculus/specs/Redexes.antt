@@ -1,4 +1,4 @@
--- What each line of a step gives where its parts are values, if it applies.
+-- What each line but pause gives at a term, if it applies.
 use Prim.Native.Nat.{ℕ}
 use mathlib.Core.Bool.{cond, _&&_}
 use mathlib.Core.List.{[], _∷_, _++_}

@@ -16,6 +16,16 @@ pub data Row : Type 0 where
   coroutine-type : (argument : ℕ) → (yields : ℕ) → (result : ℕ) → Row
   instance-type : (yields : ℕ) → (result : ℕ) → Row
 
+-- the numbers of the first rows: Unit, ⊥, and then the bases of the set
+abbrev pub unit-row : ℕ
+unit-row = 0
+
+abbrev pub bottom-row : ℕ
+bottom-row = 1
+
+abbrev pub base-row : ℕ → ℕ
+base-row k = suc (suc k)
+
 -- What a program fixes: the table of its types, and the quantity set that it computes with.
 pub record Setting : Type 0 where
   pub table : List Row
@@ -49,12 +59,12 @@ Compound (instance-type W B) = Unit {0}
 
 -- The rules of a table, over a set with K bases.
 pub record TableFormed (K : ℕ) (table : List Row) : Type 0 where
-  -- row 0 is Unit, row 1 is ⊥, and then come the bases of the set
-  pub row-unit : at table 0 ≡ Some unit-type
-  pub row-bottom : at table 1 ≡ Some bottom-type
-  pub row-base : (k : ℕ) → k < K → at table (suc (suc k)) ≡ Some (base-type k)
+  -- the first rows are Unit, ⊥ and the bases of the set
+  pub row-unit : at table unit-row ≡ Some unit-type
+  pub row-bottom : at table bottom-row ≡ Some bottom-type
+  pub row-base : (k : ℕ) → k < K → at table (base-row k) ≡ Some (base-type k)
   -- a later row is a function, coroutine or instance type
-  pub row-later : (r : ℕ) (ty : Row) → suc (suc K) ≤ r → at table r ≡ Some ty → Compound ty
+  pub row-later : (r : ℕ) (ty : Row) → base-row K ≤ r → at table r ≡ Some ty → Compound ty
   -- a row refers to earlier rows only
   pub earlier : (r : ℕ) (ty : Row) → at table r ≡ Some ty → Before r ty
   -- no two rows are alike

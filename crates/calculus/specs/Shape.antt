@@ -43,8 +43,8 @@ Beside (operation-left o b) = Plain b
 Beside (operation-right o a) = Plain a
 
 -- Active t ls: the resumptions of t all lie on the path to the next step, and ls are their labels from outside in. A plain term has none;
--- a suspension holds only plain terms, and a value pending; the path goes through a context whose parts left of the hole are values, and
--- all beside the hole is plain; it goes into a resumption, whose handlers are plain values.
+-- a suspension's term and pending value are plain, and the pending value is a value; the path goes through a context whose parts left of
+-- the hole are values, and all beside the hole is plain; it goes into a resumption, whose handlers are plain values.
 pub data Active : Term → List ℕ → Type 0 where
   p-plain : {t : Term} → Plain t → Active t []
   p-suspended : {t v : Term} → Plain t → Plain v → Value v → Active (suspension t v) []
@@ -76,7 +76,7 @@ pub record PlainBodies (μ : Bindings) : Type 0 where
 -- and pending values hold no resumption and no suspension.
 pub record Shaped (t : Term) (μ : Bindings) : Type 0 where
   pub labels : List ℕ
-  pub live : Active t labels
+  pub active : Active t labels
   pub distinct : Distinct labels
   pub empties : Empties μ labels
   pub bodies : PlainBodies μ

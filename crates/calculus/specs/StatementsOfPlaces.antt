@@ -1,4 +1,4 @@
--- What is proved of the path, of the place of a step and of what lasts in a history: every promise, each as one statement.
+-- What is proved of the path, of the place of a step and of what lasts in a history: each promise is one statement.
 use Prim.Native.Nat.{ℕ, suc, _+_, _≤_}
 use mathlib.Core.Path.{_≡_}
 use mathlib.Core.List.{[], _∷_}
@@ -10,7 +10,7 @@ use Rattle.calculus.specs.Terms.{Term}
 use Rattle.calculus.specs.Parts.{parts, size, sizes}
 use Rattle.calculus.specs.Occurrences.{Position, term-at, word-at, put-at, Parted}
 use Rattle.calculus.specs.Configurations.{Bindings}
-use Rattle.calculus.specs.Places.{enters, path}
+use Rattle.calculus.specs.Places.{enters, path, place}
 use Rattle.calculus.specs.Steps.{Step, LineAtPath}
 use Rattle.calculus.specs.Shape.{Shaped}
 use Rattle.calculus.specs.Resumptions.{ResumptionsOnPath}
@@ -26,12 +26,13 @@ Path-entered =
     ((u : Term) × (term-at t (path t) ≡ Some u))
 
 -- A term has its own word and those of its parts; the words of an occurrence lie among those of the term, and no two occurrences start at
--- one word.
+-- one word. The place of the step is the number of one of the term's words, counted from 1.
 abbrev pub Words-within : Type 0
 Words-within =
     ((t : Term) → size t ≡ suc (sizes (parts t))) ×
     ((t u : Term) (p : Position) → term-at t p ≡ Some u → word-at t p + size u ≤ size t) ×
-    ((t u v : Term) (p q : Position) → term-at t p ≡ Some u → term-at t q ≡ Some v → word-at t p ≡ word-at t q → p ≡ q)
+    ((t u v : Term) (p q : Position) → term-at t p ≡ Some u → term-at t q ≡ Some v → word-at t p ≡ word-at t q → p ≡ q) ×
+    ((t : Term) → (1 ≤ place t) × (place t ≤ size t))
 
 -- Where another term is put in the place of an occurrence, it stands there, at the same word; the size changes as it must, and what occurs
 -- elsewhere stays.

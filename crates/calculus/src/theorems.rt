@@ -1,6 +1,6 @@
 // The theorems of the calculus, each on the contract of a function.
 ghost use Rattle.calculus.specs.StatementsOfPlaces.{Path-entered, Words-within, Put-in-place, Step-at-path, Resumptions-on-path, Lasting};
-ghost use Rattle.calculus.specs.Statements.{Checking, One-type, Agreement, One-successor, Rest, Rules-kept, Replacement, Preservation, Progress, Shape-kept, Always, Confinement, In-order, Handlers-first, Never-twice};
+ghost use Rattle.calculus.specs.Statements.{Checking, One-type, Agreement, One-successor, Rest, Rules-kept, Rows-of-the-table, Replacement, Preservation, Outcomes-of-typed, Progress, Shape-kept, Always, Confinement, In-order, Handlers-first, Never-twice};
 
 // A term has type T and yield type Y exactly when the judgement answers T and a yield type that may be read as Y.
 pub fn checking_is_exact()
@@ -32,17 +32,27 @@ pub fn steps_keep_the_rules()
     ensures { λ _. ⌜ Rules-kept ⌝ }
 {}
 
-// Replacing a name by a closed value, or by a closed fix term, keeps type and yield type.
+// Types and yield types are rows of the table.
+pub fn types_are_rows()
+    ensures { λ _. ⌜ Rows-of-the-table ⌝ }
+{}
+
+// Replacing a name by a closed value, or by a closed fix term, keeps type and yield type, whatever else is in scope.
 pub fn replacement_keeps_types()
     ensures { λ _. ⌜ Replacement ⌝ }
 {}
 
-// A step keeps types and yield types; rows of bindings only grow at the end.
+// A step keeps types and yield types, and so does taking an offer; rows of bindings only grow at the end.
 pub fn steps_keep_types()
     ensures { λ _. ⌜ Preservation ⌝ }
 {}
 
-// A sound configuration of good shape is exactly one of: a value, a suspension that offers, a configuration with one successor.
+// A well-typed configuration is exactly one of: a value, a suspension that offers, a configuration with one successor, stuck.
+pub fn typed_configurations_have_one_outcome()
+    ensures { λ _. ⌜ Outcomes-of-typed ⌝ }
+{}
+
+// Where a resumption at the end of the path has an empty binding, a well-typed configuration is exactly one of the first three.
 pub fn typed_configurations_go_on()
     ensures { λ _. ⌜ Progress ⌝ }
 {}
@@ -52,12 +62,12 @@ pub fn steps_keep_the_shape()
     ensures { λ _. ⌜ Shape-kept ⌝ }
 {}
 
-// All of it holds in every history of a well-typed program.
+// What `Safe` lists holds in every history of a well-typed program.
 pub fn histories_stay_safe()
     ensures { λ _. ⌜ Always ⌝ }
 {}
 
-// A suspension never climbs past a resumption.
+// A suspension never climbs past a resumption, wherever in the term that stands.
 pub fn suspensions_stay_in_resumptions()
     ensures { λ _. ⌜ Confinement ⌝ }
 {}
@@ -67,23 +77,23 @@ pub fn parts_are_evaluated_in_order()
     ensures { λ _. ⌜ In-order ⌝ }
 {}
 
-// An instance is resumed only when the instance and all its handlers are values.
+// A line at a resume is a pause, or the instance and all three handlers are values.
 pub fn handlers_are_evaluated_first()
     ensures { λ _. ⌜ Handlers-first ⌝ }
 {}
 
-// While an instance executes, a resume of it applies the fourth part to unit.
+// While an instance executes, a resume of it has one step, which applies the fourth part to unit.
 pub fn instances_never_run_twice()
     ensures { λ _. ⌜ Never-twice ⌝ }
 {}
 
 // The path enters the first evaluated part that is not a value, unless that is a suspension; it ends at an occurrence.
-pub fn the_path_is_entered()
+pub fn the_path_goes_as_defined()
     ensures { λ _. ⌜ Path-entered ⌝ }
 {}
 
-// The words of an occurrence lie among those of the term.
-pub fn occurrences_lie_within()
+// The words of an occurrence lie among those of the term, and the place of the step is one of them.
+pub fn words_of_occurrences_lie_within()
     ensures { λ _. ⌜ Words-within ⌝ }
 {}
 

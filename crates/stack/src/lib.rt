@@ -1,4 +1,4 @@
-// A stack over a lent slice, for any kind of entry. When it is let go, all slots of the slice are blank.
+// A stack over a lent slice, for any kind of entry. When it is dropped, all slots of the slice are blank.
 ghost use mathlib.Core.Path.{_≡_};
 ghost use mathlib.Core.Bool.{true, false, cond};
 ghost use mathlib.Core.List.{List, [], _∷_};

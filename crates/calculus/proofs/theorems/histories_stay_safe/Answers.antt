@@ -1,4 +1,4 @@
--- All of it holds in every history of a well-typed program.
+-- What `Safe` lists holds in every history of a well-typed program.
 use Rattle.calculus.proofs.theorems.histories_stay_safe.Needs as need
 use Rattle.calculus.proofs.Histories.{always}
 

@@ -1,4 +1,4 @@
--- While an instance executes, a resume of it applies the fourth part to unit.
+-- While an instance executes, a resume of it has one step, which applies the fourth part to unit.
 use Rattle.calculus.proofs.theorems.instances_never_run_twice.Needs as need
 use Rattle.calculus.proofs.Misreadings.{never-twice}
 

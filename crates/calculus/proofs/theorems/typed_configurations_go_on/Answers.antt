@@ -1,4 +1,4 @@
--- A sound configuration of good shape is exactly one of: a value, a suspension that offers, a configuration with one successor.
+-- Where a resumption at the end of the path has an empty binding, a well-typed configuration is exactly one of the first three.
 use Rattle.calculus.proofs.theorems.typed_configurations_go_on.Needs as need
 use Rattle.calculus.proofs.Progress.{progress}
 

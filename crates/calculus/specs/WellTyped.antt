@@ -1,4 +1,4 @@
--- Soundness: what it is that a configuration is well typed.
+-- When a configuration is well typed.
 use Prim.Native.Nat.{ℕ}
 use mathlib.Core.Path.{_≡_}
 use mathlib.Core.List.{List, []}
@@ -26,6 +26,6 @@ pub record BindingsTyped (S : Setting) (Σ : List ℕ) (μ : Bindings) : Type 0 
   pub each : (l : ℕ) (β : Binding) → at μ l ≡ Some β → BindingTyped S Σ β
 
 -- A closed term of type T and yield type Y, with bindings that are well typed.
-pub record Sound (S : Setting) (t : Term) (μ : Bindings) (T Y : ℕ) : Type 0 where
+pub record WellTyped (S : Setting) (t : Term) (μ : Bindings) (T Y : ℕ) : Type 0 where
   pub typed : Typed S (rows μ) [] t T Y
   pub bindings-typed : BindingsTyped S (rows μ) μ

@@ -1,10 +1,13 @@
-// Shows, stage by stage, what the layers do: words are built and read, quantity sets are asked, and refusals are printed.
+// Shows, stage by stage, what the layers do: words are built and read, programs are read, quantity sets are asked, and refusals are
+// printed.
+mod programs_shown;
 mod quantities_shown;
 mod words_shown;
 
 use faults::Fault;
 use faults::methods::FaultDisplay;
 use faults::numbers::FaultNumber;
+use programs_shown::show_reading;
 use quantities_shown::show_counts;
 use quantities_shown::show_interlocks;
 use std::io;
@@ -16,6 +19,8 @@ fn main(rt: LibcRuntime) -> io::Result<()> {
     show_program(&rt)?;
     println!(rt, "== words: numbers that are no words")?;
     show_stray_bits(&rt)?;
+    println!(rt, "== programs: a sequence is read, and two are refused")?;
+    show_reading(&rt)?;
     println!(rt, "== quantities: counts")?;
     show_counts(&rt)?;
     println!(rt, "== quantities: interlocks")?;

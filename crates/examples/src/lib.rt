@@ -2,6 +2,8 @@
 #[cfg(test)]
 mod faults_tests;
 #[cfg(test)]
+mod form_tests;
+#[cfg(test)]
 mod quantities_tests;
 #[cfg(test)]
 mod words_tests;

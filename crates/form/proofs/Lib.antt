@@ -1,0 +1,3 @@
+mod Parting
+mod RowLoops
+mod TermLoop

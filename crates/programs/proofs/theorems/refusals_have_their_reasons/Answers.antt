@@ -1,0 +1,5 @@
+use Rattle.programs.proofs.Programs.{refused}
+use Rattle.programs.proofs.theorems.refusals_have_their_reasons.Needs as need
+
+pub returns : need.returns
+returns c = refused

@@ -1,0 +1,2 @@
+// The verdict on a term, and what is proved of it.
+pub mod theorems;

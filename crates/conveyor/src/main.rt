@@ -1,9 +1,11 @@
-// Shows, stage by stage, what the layers do: words are built and read, programs are read, quantity sets are asked, and refusals are
-// printed.
+// Shows, stage by stage, what the layers do: words are built and read, programs are read and admitted, quantity sets are asked, and
+// refusals are printed.
+mod admission_shown;
 mod programs_shown;
 mod quantities_shown;
 mod words_shown;
 
+use admission_shown::show_admission;
 use faults::Fault;
 use faults::methods::FaultDisplay;
 use faults::numbers::FaultNumber;
@@ -21,6 +23,11 @@ fn main(rt: LibcRuntime) -> io::Result<()> {
     show_stray_bits(&rt)?;
     println!(rt, "== programs: a sequence is read, and two are refused")?;
     show_reading(&rt)?;
+    println!(
+        rt,
+        "== admission: a sequence of two set-points, and one that mixes types"
+    )?;
+    show_admission(&rt)?;
     println!(rt, "== quantities: counts")?;
     show_counts(&rt)?;
     println!(rt, "== quantities: interlocks")?;

@@ -1,2 +1,3 @@
 mod Answered
+mod Examples
 pub mod Deciding

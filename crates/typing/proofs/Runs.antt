@@ -2,7 +2,7 @@
 use mathlib.Core.Path.{_≡_, refl, sym, ap, _∙_}
 use mathlib.Core.Bool.{Bool, true, false, cond, _||_, not}
 use mathlib.Core.List.{List, [], _∷_, _++_, append-assoc}
-use Prim.Native.Nat.{ℕ, suc, _+_, max, _/_, _%_, _^_, _≤_, _<_}
+use Prim.Native.Nat.{ℕ, _+_, max, _/_, _%_, _^_, _≤_, _<_}
 use native.Mathlib.Omega.{arith}
 use lib.Dec.{ltb}
 use lib.ListN.{length, drop}
@@ -26,8 +26,8 @@ use Rattle.encoding.proofs.Places.{stands-words}
 use Rattle.judging.specs.Verdicts.{verdict, after}
 use Rattle.typing.specs.declared.model.Scoped.{Scoped}
 use Rattle.typing.specs.declared.model.Frame.{Frame}
-use Rattle.typing.specs.Machine.{variables, scoped, fresh, added, is-full, is-binder, rule-of, entered, older, left, has-room, settle-on, settle, short, resolve, run}
-use Rattle.typing.specs.Machine.Turn.{stop, go}
+use Rattle.typing.specs.Machine.{variables, scoped, fresh, added, is-full, is-binder, rule-of, entered, older, left, has-room, settle-on, short, resolve, run}
+use Rattle.typing.specs.Machine.Turn.{go}
 use Rattle.typing.proofs.Firsts.{head, judges, verdict-is}
 
 all-map : {X : Type 0} (P Q : X → Type 0) → ((x : X) → P x → Q x) → (xs : List X) → All P xs → All Q xs

@@ -1,10 +1,9 @@
 // The type check over the words of a term.
 ghost use mathlib.Core.Path.{_≡_};
 ghost use mathlib.Core.List.{[]};
-ghost use Prim.Native.Nat.{ℕ, _≤_};
+ghost use Prim.Native.Nat.{_≤_};
 ghost use lib.ListN.{length, drop, replicate};
 ghost use denote.Ref.{name};
-ghost use Rattle.std.specs.Options.{Cases};
 ghost use Rattle.calculus.specs.Terms.{Term};
 ghost use Rattle.stack.specs.Entries.{entries};
 ghost use Rattle.encoding.specs.Encoding.{Stands};

@@ -1,5 +1,5 @@
 use borrow.Author.Needs.{needs}
-use mathlib.Core.Path.{_≡_, sym, ap, _∙_}
+use mathlib.Core.Path.{sym, ap, _∙_}
 use lib.ListN.{length, drop}
 use Rattle.stack.specs.Entries.{entries}
 use Rattle.typing.proofs.Words.{run-end, at-full-scope, at-full-frames, at-stop, at-go, same-room}

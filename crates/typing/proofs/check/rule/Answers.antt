@@ -1,4 +1,4 @@
-use mathlib.Core.Path.{_≡_, sym, ap, _∙_}
+use mathlib.Core.Path.{sym, ap, _∙_}
 use Prim.Native.Nat.{_/_, _^_}
 use Rattle.rules.specs.Rules.{abstraction-rule, coroutine-rule, start-rule}
 use Rattle.typing.proofs.Steps.{by-kind}

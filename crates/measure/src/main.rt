@@ -68,9 +68,9 @@ fn is_admitted(program: &[u32]) -> bool {
     admit(&Counts, program, &mut scopes, &mut judgements).is_ok()
 }
 
-// A complete tree of sums over so many levels, with a table of so many rows.
+// A yield of a complete tree of sums over so many levels, so 2 to the power of that many term words, with a table of so many rows.
 fn tree(heap: Global, levels: u8, rows: u32) -> Result<Vec<u32>, AllocError> {
-    let words = (1u32 << (levels % 16)).saturating_sub(1);
+    let words = 1u32 << (levels % 16);
     let mut program = Vec::new(heap);
     program.push(
         0xB000_0000u32
@@ -84,9 +84,10 @@ fn tree(heap: Global, levels: u8, rows: u32) -> Result<Vec<u32>, AllocError> {
         let before = row.saturating_sub(1);
         program.push(0x9800_0000u32.wrapping_add(before.wrapping_mul(0x201)))?;
     }
+    program.push(0x2800_0000)?;
     let mut open = Vec::new(heap);
     open.push(levels)?;
-    for _ in 0..words {
+    for _ in 1..words {
         let level = open.pop().unwrap_or(1);
         if level > 1 {
             program.push(0x5800_0000)?;

@@ -21,8 +21,8 @@ pub fn admit<Q: QuantitySet>(
     scopes: &mut [Scoped],
     judgements: &mut [Frame],
 ) -> Result<Judged, Fault>
-    ensures answer { result ≡ admit_answer meaning program.now (length scopes.old) (length judgements.old) }
-    ensures decides { 256 ≤ length scopes.old → 256 ≤ length judgements.old → Decides meaning program.now result }
+    ensures answer { result ≡ admit_answer Q.meaning program.now (length scopes.old) (length judgements.old) }
+    ensures decides { 256 ≤ length scopes.old → 256 ≤ length judgements.old → Decides Q.meaning program.now result }
     ensures scopes { scopes.new ≡ replicate (length scopes.old) nobody }
     ensures judgements { judgements.new ≡ replicate (length judgements.old) (fresh 0 0) }
 {
@@ -36,7 +36,7 @@ fn judge_words<Q: QuantitySet>(
     scopes: &mut [Scoped],
     judgements: &mut [Frame],
 ) -> Result<Judged, Fault>
-    ensures answer { result ≡ admit_answer meaning program.now (length scopes.old) (length judgements.old) }
+    ensures answer { result ≡ admit_answer Q.meaning program.now (length scopes.old) (length judgements.old) }
     ensures scopes { scopes.new ≡ replicate (length scopes.old) nobody }
     ensures judgements { judgements.new ≡ replicate (length judgements.old) (fresh 0 0) }
 {

@@ -36,8 +36,8 @@ impl<Q: QuantitySet> Engine<Q> {
         scopes: &mut [Scoped],
         judgements: &mut [Frame],
     ) -> Result<Judged, Fault>
-        ensures answer { result ≡ admit_answer meaning program.now (length scopes.old) (length judgements.old) }
-        ensures decides { 256 ≤ length scopes.old → 256 ≤ length judgements.old → Decides meaning program.now result }
+        ensures answer { result ≡ admit_answer Q.meaning program.now (length scopes.old) (length judgements.old) }
+        ensures decides { 256 ≤ length scopes.old → 256 ≤ length judgements.old → Decides Q.meaning program.now result }
         ensures scopes { scopes.new ≡ replicate (length scopes.old) nobody }
         ensures judgements { judgements.new ≡ replicate (length judgements.old) (fresh 0 0) }
     {
@@ -54,13 +54,13 @@ impl<Q: QuantitySet> Engine<Q> {
         image: &mut [u32],
         spare: &mut [u32],
     ) -> Result<State, Fault>
-        ensures answer { result ≡ opened (open_outcome meaning program.now (length scopes.old) (length judgements.old) image.old (length spare.old)).answer }
-        ensures image { image.new ≡ (open_outcome meaning program.now (length scopes.old) (length judgements.old) image.old (length spare.old)).image }
+        ensures answer { result ≡ opened (open_outcome Q.meaning program.now (length scopes.old) (length judgements.old) image.old (length spare.old)).answer }
+        ensures image { image.new ≡ (open_outcome Q.meaning program.now (length scopes.old) (length judgements.old) image.old (length spare.old)).image }
         ensures spare { spare.new ≡ replicate (length spare.old) 0 }
         ensures scopes { scopes.new ≡ replicate (length scopes.old) nobody }
         ensures judgements { judgements.new ≡ replicate (length judgements.old) (fresh 0 0) }
-        ensures exact { OpensExactly meaning program.now (length scopes.old) (length judgements.old) image.old (length spare.old) }
-        ensures sound { OpenSound meaning program.now (length scopes.old) (length judgements.old) image.old (length spare.old) }
+        ensures exact { OpensExactly Q.meaning program.now (length scopes.old) (length judgements.old) image.old (length spare.old) }
+        ensures sound { OpenSound Q.meaning program.now (length scopes.old) (length judgements.old) image.old (length spare.old) }
     {
         open_program(&self.set, program, scopes, judgements, image, spare)
     }
@@ -74,10 +74,10 @@ impl<Q: QuantitySet> Engine<Q> {
         image: &mut [u32],
         spare: &mut [u32],
     ) -> Result<Ran, RunRefused>
-        ensures answer { result ≡ ran state (run_outcome meaning n image.old (length spare.old)).made (run_outcome meaning n image.old (length spare.old)).answer }
-        ensures image { image.new ≡ (run_outcome meaning n image.old (length spare.old)).image }
+        ensures answer { result ≡ ran state (run_outcome Q.meaning n image.old (length spare.old)).made (run_outcome Q.meaning n image.old (length spare.old)).answer }
+        ensures image { image.new ≡ (run_outcome Q.meaning n image.old (length spare.old)).image }
         ensures spare { spare.new ≡ replicate (length spare.old) 0 }
-        ensures steps { RunsBySteps meaning n image.old (length spare.old) }
+        ensures steps { RunsBySteps Q.meaning n image.old (length spare.old) }
     {
         run_image(&self.set, state, n, image, spare)
     }

@@ -27,7 +27,7 @@ fn admitted_words<'a, Q: QuantitySet>(
 ) -> Result<&'a [u32], Fault>
     requires some { 256 ≤ length scopes.old }
     requires many { 256 ≤ length judgements.old }
-    ensures value { WordsOf (admitted_term meaning program.now (length scopes.old) (length judgements.old)) result }
+    ensures value { WordsOf (admitted_term Q.meaning program.now (length scopes.old) (length judgements.old)) result }
     ensures scopes { scopes.new ≡ replicate (length scopes.old) nobody }
     ensures judgements { judgements.new ≡ replicate (length judgements.old) (fresh 0 0) }
 {
@@ -63,8 +63,8 @@ pub(crate) fn open_program<Q: QuantitySet>(
     image: &mut [u32],
     spare: &mut [u32],
 ) -> Result<State, Fault>
-    ensures answer { result ≡ opened (open_outcome meaning program.now (length scopes.old) (length judgements.old) image.old (length spare.old)).answer }
-    ensures image { image.new ≡ (open_outcome meaning program.now (length scopes.old) (length judgements.old) image.old (length spare.old)).image }
+    ensures answer { result ≡ opened (open_outcome Q.meaning program.now (length scopes.old) (length judgements.old) image.old (length spare.old)).answer }
+    ensures image { image.new ≡ (open_outcome Q.meaning program.now (length scopes.old) (length judgements.old) image.old (length spare.old)).image }
     ensures spare { spare.new ≡ replicate (length spare.old) 0 }
     ensures scopes { scopes.new ≡ replicate (length scopes.old) nobody }
     ensures judgements { judgements.new ≡ replicate (length judgements.old) (fresh 0 0) }

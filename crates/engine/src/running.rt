@@ -18,8 +18,8 @@ pub(crate) fn run_image<Q: QuantitySet>(
     image: &mut [u32],
     spare: &mut [u32],
 ) -> Result<Ran, RunRefused>
-    ensures answer { result ≡ ran state (run_outcome meaning n image.old (length spare.old)).made (run_outcome meaning n image.old (length spare.old)).answer }
-    ensures image { image.new ≡ (run_outcome meaning n image.old (length spare.old)).image }
+    ensures answer { result ≡ ran state (run_outcome Q.meaning n image.old (length spare.old)).made (run_outcome Q.meaning n image.old (length spare.old)).answer }
+    ensures image { image.new ≡ (run_outcome Q.meaning n image.old (length spare.old)).image }
     ensures spare { spare.new ≡ replicate (length spare.old) 0 }
 {
     let guard = Zeroing { words: spare };

@@ -16,7 +16,7 @@ use writing::writer::{copy, get, word};
 
 // The base and the payload that operation o gives for payload p of base j and payload q of base k, if it takes them.
 fn operate<Q: QuantitySet>(set: &Q, o: u8, p: u32, j: u8, q: u32, k: u8) -> Option<(u8, u32)>
-    ensures value { (μ : Bindings) → Operated result μ (operated meaning o p j q k (meaning.signature o) μ) }
+    ensures value { (μ : Bindings) → Operated result μ (operated Q.meaning o p j q k (Q.meaning.signature o) μ) }
     ensures bounds { IfSome result (λ w. (w.0 < 8) × (w.1 < 2 ^ 24)) }
 {
     let Some(s) = set.signature(o) else {
@@ -48,7 +48,7 @@ pub fn write_operation<Q: QuantitySet>(
     requires short { length spare.old < 2 ^ 32 }
     requires low { p < 2 ^ 32 }
     ensures { (c : Configuration) (K : Term → Term) (o : ℕ) (a b : Term) → Hole image.now c p (Operation o a b) K → used ≡ Used c
-        → Lined result spare.old spare.new K (operates meaning o (view a) (view b) c.bindings) }
+        → Lined result spare.old spare.new K (operates Q.meaning o (view a) (view b) c.bindings) }
 {
     let x = get(image, p + 1);
     if kind_number(x) != 10 {

@@ -202,7 +202,7 @@ pub fn fix(rows: &[u32], place: usize, function: Judged) -> Result<Judged, Fault
 
 // An atom has its base, if that is a base of the set and holds the payload.
 pub fn atom<Q: QuantitySet>(set: &Q, place: usize, base: u8, payload: u32) -> Result<Judged, Fault>
-    ensures { result ≡ atom_rule meaning place base payload }
+    ensures { result ≡ atom_rule Q.meaning place base payload }
 {
     if base < set.bases() && set.holds(base, payload) {
         accept(base_row(base), 1)

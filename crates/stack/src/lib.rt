@@ -21,7 +21,7 @@ impl Entry for u8 {
 
 // Makes every slot blank.
 pub fn clear<T: Entry>(slots: &mut [T])
-    ensures { slots.new ≡ replicate (length slots.old) blank }
+    ensures { slots.new ≡ replicate (length slots.old) T.blank }
 {
     for slot in slots.iter_mut() {
         *slot = T::blank();
@@ -122,7 +122,7 @@ impl<'a, T: Entry> Stack<'a, T> {
 
 impl<T: Entry> Drop for Stack<'_, T> {
     fn drop(self)
-        ensures { self.exit.0.now ≡ replicate (length self.entry.slots.now) blank }
+        ensures { self.exit.0.now ≡ replicate (length self.entry.slots.now) T.blank }
     {
         let Stack { slots, len: _ } = self;
         clear(slots);

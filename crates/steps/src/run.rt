@@ -30,7 +30,7 @@ pub fn run_steps<Q: QuantitySet>(
     requires high { length image.old ≤ 2 ^ 14 }
     requires same { length image.old ≡ length spare.old }
     ensures { (c : Configuration) → Image image.old c
-        → RunWritten result image.old image.new (steps_in meaning (length image.old) n c) }
+        → RunWritten result image.old image.new (steps_in Q.meaning (length image.old) n c) }
 {
     let mut made = 0;
     while made < n {

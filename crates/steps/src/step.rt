@@ -24,7 +24,7 @@ pub fn step<Q: QuantitySet>(set: &Q, image: &mut [u32], spare: &mut [u32]) -> Op
     requires high { length image.old ≤ 2 ^ 14 }
     requires same { length image.old ≡ length spare.old }
     ensures { (c : Configuration) → Image image.old c
-        → StepWritten result image.old image.new (step_in meaning (length image.old) c) }
+        → StepWritten result image.old image.new (step_in Q.meaning (length image.old) c) }
 {
     let head = image[0];
     let p = step_place(image, 1);

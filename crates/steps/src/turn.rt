@@ -40,7 +40,7 @@ pub fn write_line<Q: QuantitySet>(
     requires low { p < 2 ^ 32 }
     requires few { n < 2 ^ 12 }
     ensures { (c : Configuration) → Image image.now c → p ≡ place c.term → used ≡ Used c → n ≡ length c.bindings
-        → Turned result spare.old spare.new (next meaning c.term c.bindings) }
+        → Turned result spare.old spare.new (next Q.meaning c.term c.bindings) }
 {
     let w = get(image, p);
     let k = kind_number(w);

@@ -33,7 +33,7 @@ fn rule<Q: QuantitySet>(
     scope: &Stack<'_, Scoped>,
     frame: Frame,
 ) -> Result<Judged, Fault>
-    ensures { result ≡ rule_of meaning rows.now (entries scope.now.slots.now scope.now.len) frame }
+    ensures { result ≡ rule_of Q.meaning rows.now (entries scope.now.slots.now scope.now.len) frame }
 {
     let word = frame.word;
     let place = frame.place;
@@ -74,7 +74,7 @@ fn settle<Q: QuantitySet>(
     scope: &mut Stack<'_, Scoped>,
     frames: &mut Stack<'_, Frame>,
 ) -> Option<Result<Judged, Fault>>
-    ensures all { Settles result (settling meaning rows.now (entries scope.old.slots.now scope.old.len) (entries frames.old.slots.now frames.old.len)) (entries frames.new.slots.now frames.new.len) (entries scope.new.slots.now scope.new.len) }
+    ensures all { Settles result (settling Q.meaning rows.now (entries scope.old.slots.now scope.old.len) (entries frames.old.slots.now frames.old.len)) (entries frames.new.slots.now frames.new.len) (entries scope.new.slots.now scope.new.len) }
     ensures scope_long { length scope.new.slots.now ≡ length scope.old.slots.now }
     ensures scope_same { scope.new.slots.ghost_name ≡ scope.old.slots.ghost_name }
     ensures frames_long { length frames.new.slots.now ≡ length frames.old.slots.now }
@@ -105,7 +105,7 @@ pub fn check<Q: QuantitySet>(
     scopes: &mut [Scoped],
     judgements: &mut [Frame],
 ) -> Result<Judged, Fault>
-    ensures answer { result ≡ run meaning rows.now (length scopes.old) (length judgements.old) at [] [] (drop at words.now) }
+    ensures answer { result ≡ run Q.meaning rows.now (length scopes.old) (length judgements.old) at [] [] (drop at words.now) }
     ensures scopes { scopes.new ≡ replicate (length scopes.old) nobody }
     ensures judgements { judgements.new ≡ replicate (length judgements.old) (fresh-frame 0 0) }
 {
@@ -137,7 +137,7 @@ pub fn check_term<Q: QuantitySet>(
     scopes: &mut [Scoped],
     judgements: &mut [Frame],
 ) -> Result<Judged, Fault>
-    ensures answer { (t : Term) → Stands t words.now at → depth t ≤ 256 → 256 ≤ length scopes.old → 256 ≤ length judgements.old → result ≡ verdict meaning rows.now [] at t }
+    ensures answer { (t : Term) → Stands t words.now at → depth t ≤ 256 → 256 ≤ length scopes.old → 256 ≤ length judgements.old → result ≡ verdict Q.meaning rows.now [] at t }
     ensures scopes { scopes.new ≡ replicate (length scopes.old) nobody }
     ensures judgements { judgements.new ≡ replicate (length judgements.old) (fresh-frame 0 0) }
 {

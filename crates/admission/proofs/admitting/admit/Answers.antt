@@ -9,10 +9,10 @@ returns g c =
     let m = g.Q.QuantitySet.meaning in
     let words = c.args.program.now in
     record {
-      answer = c.judge-words.ensures.answer;
+      answer = c.judge_words.ensures.answer;
       decides = λ hs hn.
-          subst (λ (v : Verdict). Decides m words v) (sym c.judge-words.ensures.answer)
+          subst (λ (v : Verdict). Decides m words v) (sym c.judge_words.ensures.answer)
           (decides m g.met.Q.QuantitySet.lawful words (length c.args.scopes.now) (length c.args.judgements.now) hs hn);
-      scopes = c.judge-words.ensures.scopes;
-      judgements = c.judge-words.ensures.judgements;
+      scopes = c.judge_words.ensures.scopes;
+      judgements = c.judge_words.ensures.judgements;
     }

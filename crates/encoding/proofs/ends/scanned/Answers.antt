@@ -15,12 +15,12 @@ returns-then-place-words c =
       bounds = tt;
     }
 
-pub returns-then-not-is-term-word : goal.returns-then-not-is-term-word
-returns-then-not-is-term-word c =
+pub returns-then-not-is_term_word : goal.returns-then-not-is_term_word
+returns-then-not-is_term_word c =
     record {
       value =
           sym (scan_drop_bad c.args.words.now _ c.loop-pending.place c.loop-pending-test.true (omega arith)
-          (sym c.if-not-is-term-word.ensures))
+          (sym c.if-not-is_term_word.ensures))
           ∙ c.loop-pending.invariant.3;
       bounds = tt;
     }
@@ -28,8 +28,8 @@ returns-then-not-is-term-word c =
 pub loop-pending-preserved : goal.loop-pending-preserved
 loop-pending-preserved c =
     let h : c.loop-pending.place < length c.args.words.now = omega arith in
-    let e = scan_drop_more c.args.words.now _ _ c.loop-pending-test.true h (sym c.if-not-is-term-word.ensures) in
+    let e = scan_drop_more c.args.words.now _ _ c.loop-pending-test.true h (sym c.if-not-is_term_word.ensures) in
     (omega arith, omega arith, omega (arith, arity_le, c.arity.ensures), cc)
 
-pub overflow-add-pending : goal.overflow-add-pending
-overflow-add-pending c = omega (arith, arity_le, c.arity.ensures)
+pub overflow_add-pending : goal.overflow_add-pending
+overflow_add-pending c = omega (arith, arity_le, c.arity.ensures)

@@ -13,11 +13,11 @@ returns g c =
     let image = c.args.image.now in
     let k = length c.args.spare.now in
     record {
-      answer = c.open-program.ensures.answer;
-      image = c.open-program.ensures.image;
-      spare = c.open-program.ensures.spare;
-      scopes = c.open-program.ensures.scopes;
-      judgements = c.open-program.ensures.judgements;
+      answer = c.open_program.ensures.answer;
+      image = c.open_program.ensures.image;
+      spare = c.open_program.ensures.spare;
+      scopes = c.open_program.ensures.scopes;
+      judgements = c.open_program.ensures.judgements;
       exact = opens_exactly m law program s n image k;
       sound = open_sound m law program s n image k;
     }

@@ -6,6 +6,6 @@ returns g c =
     let s = g.S.Showing.status in
     let rests = g.met.S.Showing.resting in
     record {
-      answer = c.show-part.ensures s c.number.ensures rests;
+      answer = c.show_part.ensures s c.number.ensures rests;
       part = shows_the_value s rests c.args.image.now;
     }

@@ -5,8 +5,8 @@ use Rattle.engine.proofs.Engine.take.Goals as goal
 pub returns : goal.returns
 returns g c =
     record {
-      answer = c.take-image.ensures.answer;
-      image = c.take-image.ensures.image;
-      spare = c.take-image.ensures.spare;
+      answer = c.take_image.ensures.answer;
+      image = c.take_image.ensures.image;
+      spare = c.take_image.ensures.spare;
       offer = takes_the_offer c.args.image.now (length c.args.spare.now);
     }

@@ -18,7 +18,7 @@ returns c =
     let image = c.args.image.now in
     record {
       value = λ s e.
-          c.check-image.ensures s e
-          ∙ sym (ap fault_in (lengths_fit (length image) c.args.spare c.in-default.ensures.value (of_status s (reading image))));
-      bounds = fit_anyway (length image) c.args.spare c.in-default.ensures.bounds c.check-image.result;
+          c.check_image.ensures s e
+          ∙ sym (ap fault_in (lengths_fit (length image) c.args.spare c.in_default.ensures.value (of_status s (reading image))));
+      bounds = fit_anyway (length image) c.args.spare c.in_default.ensures.bounds c.check_image.result;
     }

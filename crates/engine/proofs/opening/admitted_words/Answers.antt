@@ -8,7 +8,7 @@ returns-in-Ok g c =
     let m = g.Q.QuantitySet.meaning in
     let words = c.args.program.now in
     let p : Split = record { rows = c.in-Ok.parts.rows.now; term = c.in-Ok.parts.term.now } in
-    let j = accepted_with c.admit.result c.in-default.not-Err in
+    let j = accepted_with c.admit.result c.in_default.not-Err in
     record {
       value =
           words_admitted m g.met.Q.QuantitySet.lawful words (length c.args.scopes.now) (length c.args.judgements.now)

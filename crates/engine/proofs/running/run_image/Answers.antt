@@ -20,12 +20,12 @@ returns-in-Some-fault g c =
     let m = g.Q.QuantitySet.meaning in
     let image = c.args.image.now in
     let k = length c.args.spare.now in
-    let e = c.in-default.ensures.value going refl in
+    let e = c.in_default.ensures.value going refl in
     let x = run_known m c.args.n image k c.args.state e in
-    let w = c.run-steps-made.ensures x.configuration x.is_image in
+    let w = c.run_steps-made.ensures x.configuration x.is_image in
     record {
-      answer = run_refused m c.args.n image k c.args.state e c.run-steps-made.new.image c.run-steps-made.result w c.in-Some-fault.fault c.in-Some-fault.is;
-      image = run_image m c.args.n image k c.args.state e c.run-steps-made.new.image c.run-steps-made.result w;
+      answer = run_refused m c.args.n image k c.args.state e c.run_steps-made.new.image c.run_steps-made.result w c.in-Some-fault.fault c.in-Some-fault.is;
+      image = run_image m c.args.n image k c.args.state e c.run_steps-made.new.image c.run_steps-made.result w;
       spare = search rules;
     }
 
@@ -34,13 +34,13 @@ returns g c =
     let m = g.Q.QuantitySet.meaning in
     let image = c.args.image.now in
     let k = length c.args.spare.now in
-    let e = c.in-default.ensures.value going refl in
+    let e = c.in_default.ensures.value going refl in
     let x = run_known m c.args.n image k c.args.state e in
-    let w = c.run-steps-made.ensures x.configuration x.is_image in
+    let w = c.run_steps-made.ensures x.configuration x.is_image in
     record {
       answer =
-          run_accepted m c.args.n image k c.args.state e c.run-steps-made.new.image c.run-steps-made.result w
-          g.met.Q.QuantitySet.lawful c.in-None.is c.state-at.result c.state-at.ensures;
-      image = run_image m c.args.n image k c.args.state e c.run-steps-made.new.image c.run-steps-made.result w;
+          run_accepted m c.args.n image k c.args.state e c.run_steps-made.new.image c.run_steps-made.result w
+          g.met.Q.QuantitySet.lawful c.in-None.is c.state_at.result c.state_at.ensures;
+      image = run_image m c.args.n image k c.args.state e c.run_steps-made.new.image c.run_steps-made.result w;
       spare = search rules;
     }

@@ -18,9 +18,9 @@ pub returns : goal.returns
 returns c =
     let image = c.args.image.now in
     let k = length c.args.spare.now in
-    let t = takes image k c.args.state (c.in-default.ensures.value offering refl) c.take-term.new.image c.take-term.ensures in
+    let t = takes image k c.args.state (c.in_default.ensures.value offering refl) c.take_term.new.image c.take_term.ensures in
     record {
-      answer = t.answer_is c.state-at.result c.state-at.ensures;
+      answer = t.answer_is c.state_at.result c.state_at.ensures;
       image = t.image_is;
       spare = search rules;
     }

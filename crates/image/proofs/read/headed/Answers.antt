@@ -8,9 +8,9 @@ pub returns-then-e-used : goal.returns-then-e-used
 returns-then-e-used c =
     let ws = c.args.words.now in
     let e = c.in-Some.e in
-    c.zero-from.ensures
+    c.zero_from.ensures
     ∙ sym (headed_end ws c.bindings.result c.requires.some
-    (sym c.kind-number.ensures ∙ c.if-kind-number-ne23.false) c.bindings.ensures
+    (sym c.kind_number.ensures ∙ c.if-kind_number-ne23.false) c.bindings.ensures
     e c.used.result c.used.ensures c.in-Some.ensures.value
     ∙ ap (λ t. t && all_zero (drop e ws)) (eq-eqb e c.used.result c.if-e-used.true))
 
@@ -21,11 +21,11 @@ returns-else-e-used c =
     let no_end = ne_eqb e c.used.result c.if-e-used.false in
     no_end
     ∙ sym (headed_end ws c.bindings.result c.requires.some
-    (sym c.kind-number.ensures ∙ c.if-kind-number-ne23.false) c.bindings.ensures
+    (sym c.kind_number.ensures ∙ c.if-kind_number-ne23.false) c.bindings.ensures
     e c.used.result c.used.ensures c.in-Some.ensures.value
     ∙ and_left (eqb e c.used.result) (all_zero (drop e ws)) no_end)
 
 pub returns-in-None : goal.returns-in-None
 returns-in-None c =
     sym (headed_none c.args.words.now c.bindings.result c.requires.some
-    (sym c.kind-number.ensures ∙ c.if-kind-number-ne23.false) c.bindings.ensures c.in-None.ensures.value)
+    (sym c.kind_number.ensures ∙ c.if-kind_number-ne23.false) c.bindings.ensures c.in-None.ensures.value)

@@ -5,7 +5,7 @@ use Rattle.image.proofs.read.is_value_after.Goals as goal
 
 pub returns-then-pending-eq0 : goal.returns-then-pending-eq0
 returns-then-pending-eq0 c =
-    c.is-value-word.ensures
+    c.is_value_word.ensures
     ∙ sym (value_at c.args.words.now c.loop-place.place c.loop-place-test.true c.loop-place.pending c.if-pending-eq0.true)
     ∙ c.loop-place.invariant.2
 

@@ -2,7 +2,7 @@ use Rattle.std.proofs.Common.{sym, ◌∙◌, arith}
 use Rattle.encoding.proofs.Scanning.{arity_le}
 use Rattle.image.proofs.OneWord.{reach_behind, term_refused, term_onward, binding_refused, binding_onward}
 use Rattle.image.proofs.read.reach.Goals as goal
-use Rattle.image.proofs.read.reach.Goals.{then-pending-gt0+else-not-stands, else-pending-gt0+else-not-is-binding}
+use Rattle.image.proofs.read.reach.Goals.{then-pending-gt0+else-not-stands, else-pending-gt0+else-not-is_binding}
 
 pub returns-then-place-words : goal.returns-then-place-words
 returns-then-place-words c =
@@ -25,13 +25,13 @@ returns-then-not-stands c =
       bounds = tt;
     }
 
-pub returns-then-not-is-binding : goal.returns-then-not-is-binding
-returns-then-not-is-binding c =
+pub returns-then-not-is_binding : goal.returns-then-not-is_binding
+returns-then-not-is_binding c =
     let l = c.loop-pending in
     record {
       value =
           sym (binding_refused c.args.words.now l.place (omega arith) c.args.count l.pending l.left
-          c.if-pending-gt0.false c.loop-pending-test.true (sym c.if-not-is-binding.ensures))
+          c.if-pending-gt0.false c.loop-pending-test.true (sym c.if-not-is_binding.ensures))
           ∙ l.invariant.4;
       bounds = tt;
     }
@@ -45,8 +45,8 @@ loop-pending-preserved c =
           let e = term_onward ws l.place (omega arith) c.args.count l.pending l.left
           w.if-pending-gt0.true (sym w.if-not-stands.ensures) in
           (omega arith, omega arith, omega (arith, arity_le), omega arith, cc)
-      | else-pending-gt0+else-not-is-binding w ↦
+      | else-pending-gt0+else-not-is_binding w ↦
           let e = binding_onward ws l.place (omega arith) c.args.count l.pending l.left
-          w.if-pending-gt0.false c.loop-pending-test.true (sym w.if-not-is-binding.ensures) in
+          w.if-pending-gt0.false c.loop-pending-test.true (sym w.if-not-is_binding.ensures) in
           (omega arith, omega arith, omega arith, omega arith, cc)
     ]

@@ -13,9 +13,9 @@ pub returns-then-get-ne0 : goal.returns-then-get-ne0
 returns-then-get-ne0 c = λ k K l v b d e h q.
     let y = c.label.ensures ∙ ap label_at c.get.ensures
     ∙ end_label c.args.image.now k K c.args.p c.args.used l v b d e h q in
-    when_ready c.args.image.now k l c.binding-at-q.result
+    when_ready c.args.image.now k l c.binding_at-q.result
     (end_below c.args.image.now k K c.args.p c.args.used l v b d e h q)
-    (relabel c.args.image.now k _ c.label.result l y c.binding-at-q.ensures.value h.is)
+    (relabel c.args.image.now k _ c.label.result l y c.binding_at-q.ensures.value h.is)
     (λ z. c.if-get-ne0.true (ap (λ w. w % 2) c.get-2.ensures ∙ z))
     λ i t a w. ap (λ β. on_empty β (λ j. application b v ∣ k.bindings)) a
 
@@ -23,9 +23,9 @@ pub returns : goal.returns
 returns c = λ k K l v b d e h q.
     let y = c.label.ensures ∙ ap label_at c.get.ensures
     ∙ end_label c.args.image.now k K c.args.p c.args.used l v b d e h q in
-    when_empty c.args.image.now k l c.binding-at-q.result
+    when_empty c.args.image.now k l c.binding_at-q.result
     (end_below c.args.image.now k K c.args.p c.args.used l v b d e h q)
-    (relabel c.args.image.now k _ c.label.result l y c.binding-at-q.ensures.value h.is)
+    (relabel c.args.image.now k _ c.label.result l y c.binding_at-q.ensures.value h.is)
     (ap (λ w. w % 2) (sym c.get-2.ensures) ∙ c.if-get-ne0.false)
     λ i a w. (
       application b v ∣ k.bindings,

@@ -13,11 +13,11 @@ use Rattle.lines.proofs.Instances.{by_instance, not_resumed, when_empty, when_re
 use Rattle.lines.proofs.Resumed.{resumed_kind, resumed_label, resumed_below, neither_words, resume_words}
 use Rattle.lines.proofs.binding_lines.write_resume.Goals as goal
 
-pub returns-then-kind-number-ne12 : goal.returns-then-kind-number-ne12
-returns-then-kind-number-ne12 c = λ k K f b d e h q.
+pub returns-then-kind_number-ne12 : goal.returns-then-kind_number-ne12
+returns-then-kind_number-ne12 c = λ k K f b d e h q.
     not_resumed f (viewed f) b d e k.bindings
-    (λ z. c.if-kind-number-ne12.true
-    (c.kind-number.ensures ∙ ap kind_at c.get-w.ensures
+    (λ z. c.if-kind_number-ne12.true
+    (c.kind_number.ensures ∙ ap kind_at c.get-w.ensures
     ∙ resumed_kind c.args.image.now k K c.args.p c.args.used f b d e h ∙ z))
 
 pub returns-then-x-eq0 : goal.returns-then-x-eq0
@@ -27,14 +27,14 @@ returns-then-x-eq0 c = λ k K f b d e h q.
     Lined (Some c.copy.result) c.args.spare.now c.copy.new.out K (resumes (view g) b d e k.bindings))
     f (viewed f)
     (sym (resumed_kind c.args.image.now k K c.args.p c.args.used f b d e h) ∙ ap kind_at (sym c.get-w.ensures)
-    ∙ sym c.kind-number.ensures ∙ c.if-kind-number-ne12.false)
+    ∙ sym c.kind_number.ensures ∙ c.if-kind_number-ne12.false)
     (λ l r h.
-    when_empty c.args.image.now k l c.binding-at-q.result
+    when_empty c.args.image.now k l c.binding_at-q.result
     (resumed_below c.args.image.now k K c.args.p c.args.used l r b d e h q)
     (relabel c.args.image.now k _ c.label.result l
     (c.label.ensures ∙ ap label_at c.get-w.ensures
     ∙ resumed_label c.args.image.now k K c.args.p c.args.used l r b d e h q)
-    c.binding-at-q.ensures.value h.is)
+    c.binding_at-q.ensures.value h.is)
     (ap (λ w. w % 2) (sym c.get-x.ensures) ∙ c.if-x-eq0.true)
     λ i a w. (
       application e unit ∣ k.bindings,
@@ -53,14 +53,14 @@ returns c = λ k K f b d e h q.
     Lined (Some c.copy-2.result) c.args.spare.now c.copy-2.new.out K (resumes (view g) b d e k.bindings))
     f (viewed f)
     (sym (resumed_kind c.args.image.now k K c.args.p c.args.used f b d e h) ∙ ap kind_at (sym c.get-w.ensures)
-    ∙ sym c.kind-number.ensures ∙ c.if-kind-number-ne12.false)
+    ∙ sym c.kind_number.ensures ∙ c.if-kind_number-ne12.false)
     (λ l r h.
-    when_ready c.args.image.now k l c.binding-at-q.result
+    when_ready c.args.image.now k l c.binding_at-q.result
     (resumed_below c.args.image.now k K c.args.p c.args.used l r b d e h q)
     (relabel c.args.image.now k _ c.label.result l
     (c.label.ensures ∙ ap label_at c.get-w.ensures
     ∙ resumed_label c.args.image.now k K c.args.p c.args.used l r b d e h q)
-    c.binding-at-q.ensures.value h.is)
+    c.binding_at-q.ensures.value h.is)
     (λ z. c.if-x-eq0.false (ap (λ w. w % 2) c.get-x.ensures ∙ z))
     λ i t a w. (
       resumption l t b d e ∣ put k.bindings l (empty i),
@@ -68,11 +68,11 @@ returns c = λ k K f b d e h q.
       rewritten
           (resume_words c.args.image.now k K c.args.p c.args.used l r b d e h q c.past-m.result c.past-n.result
           c.past-stop.result c.past-m.ensures.value c.past-n.ensures.value c.past-stop.ensures.value i t
-          c.binding-at-q.result w c.past-z.result c.label-2.result c.row.result
+          c.binding_at-q.result w c.past-z.result c.label-2.result c.row.result
           (c.label-2.ensures ∙ ap label_at c.get-w.ensures) (c.row.ensures ∙ ap row_at c.get-x.ensures)
           c.past-z.ensures.value)
-          (c.copy-a.ensures ▸ (rewritten (ap (λ w. w ∷ []) c.resumption-word.ensures) c.word-h.ensures ▸ (c.copy-i.ensures
-          ▸ (c.copy-j.ensures ▸ (c.copy-k.ensures ▸ (rewritten (ap (λ w. w ∷ []) c.empty-word.ensures) c.word-l.ensures
+          (c.copy-a.ensures ▸ (rewritten (ap (λ w. w ∷ []) c.resumption_word.ensures) c.word-h.ensures ▸ (c.copy-i.ensures
+          ▸ (c.copy-j.ensures ▸ (c.copy-k.ensures ▸ (rewritten (ap (λ w. w ∷ []) c.empty_word.ensures) c.word-l.ensures
           ▸ c.copy-2.ensures)))))),
     ))
     h

@@ -4,9 +4,9 @@ use Rattle.calculus.specs.Configurations.{◌∣◌}
 use Rattle.lines.proofs.Operated.{unsigned, other_first, other_second, first_not_held, second_not_held, gives, small}
 use Rattle.lines.proofs.operating.operate.Goals as goal
 
-pub returns-in-default : goal.returns-in-default
-returns-in-default g c = record {
-  value = λ μ. unsigned g.Q.QuantitySet.meaning c.args.o c.args.p c.args.j c.args.q c.args.k μ c.in-default.ensures;
+pub returns-in_default : goal.returns-in_default
+returns-in_default g c = record {
+  value = λ μ. unsigned g.Q.QuantitySet.meaning c.args.o c.args.p c.args.j c.args.q c.args.k μ c.in_default.ensures;
   bounds = tt;
 }
 

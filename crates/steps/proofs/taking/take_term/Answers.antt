@@ -29,13 +29,13 @@ returns c = λ k t v m q.
     (take_words c.args.image.now t v k.bindings c.past-m.result c.past-stop.result c.used.result i
     (c.used.ensures ∙ h.used) c.past-m.ensures.value c.past-stop.ensures.value)
     (c.copy-a.ensures ▸ c.copy-e.ensures) in
-    let w = c.head-word.result in
+    let w = c.head_word.result in
     let n = length-set c.args.image.now 0 w in
     let fits = c.if-e-image.false in
-    ap (λ j. put_mid 1 (j - 1) (set c.args.image.now 0 w) c.take-over.new.tail) n
-    ∙ first_then_tail c.args.image.now c.take-over.new.tail w (omega (arith, c.requires.low))
+    ap (λ j. put_mid 1 (j - 1) (set c.args.image.now 0 w) c.take_over.new.tail) n
+    ∙ first_then_tail c.args.image.now c.take_over.new.tail w (omega (arith, c.requires.low))
     ∙ image_written c.args.image.now c.args.spare.now c.copy-e.new.out c.copy-e.result c.bindings.result w
-    c.take-over.new.tail (t ∣ k.bindings) c.requires.same c.requires.low (b.put (omega (arith, fits, c.requires.same)))
-    (c.bindings.ensures ∙ h.bindings) c.head-word.ensures
-    (tail_written c.args.image.now c.copy-e.new.out c.take-over.new.tail w c.saturating-sub.result c.copy-e.result
-    c.take-over.ensures c.saturating-sub.ensures)
+    c.take_over.new.tail (t ∣ k.bindings) c.requires.same c.requires.low (b.put (omega (arith, fits, c.requires.same)))
+    (c.bindings.ensures ∙ h.bindings) c.head_word.ensures
+    (tail_written c.args.image.now c.copy-e.new.out c.take_over.new.tail w c.saturating_sub.result c.copy-e.result
+    c.take_over.ensures c.saturating_sub.ensures)

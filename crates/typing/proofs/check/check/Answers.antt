@@ -69,11 +69,11 @@ loop-place-preserved g c =
     let v = c.loop-place.invariant in
     let p = c.if-not-enter.ensures in
     let q = c.if-not-push.ensures in
-    let r = c.in-default.ensures in (
-      r.scope-long ∙ p.long ∙ v.0,
-      r.frames-long ∙ q.long ∙ v.1,
-      r.scope-same ∙ p.same ∙ v.2,
-      r.frames-same ∙ q.same ∙ v.3,
+    let r = c.in_default.ensures in (
+      r.scope_long ∙ p.long ∙ v.0,
+      r.frames_long ∙ q.long ∙ v.1,
+      r.scope_same ∙ p.same ∙ v.2,
+      r.frames_same ∙ q.same ∙ v.3,
       sym (at_go g.Q.QuantitySet.meaning c.args.rows.now (length c.over-scope.result.slots.now) (length c.over-frames.result.slots.now) c.loop-place.place
           (entries c.loop-place.frames.slots.now c.loop-place.frames.len) (entries c.loop-place.scope.slots.now c.loop-place.scope.len)
           c.args.words.now

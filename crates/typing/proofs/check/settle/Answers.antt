@@ -12,24 +12,24 @@ returns-then-not-full g c =
           ∙ settle_wait g.Q.QuantitySet.meaning c.args.rows.now (entries c.loop-frame.scope.slots.now c.loop-frame.scope.len)
           c.in-Some.frame (entries c.loop-frame.frames.slots.now c.loop-frame.frames.len) _ c.in-Some.ensures
           (sym c.if-not-full.ensures);
-      scope-long = i.0;
-      scope-same = i.2;
-      frames-long = i.1;
-      frames-same = i.3;
+      scope_long = i.0;
+      scope_same = i.2;
+      frames_long = i.1;
+      frames_same = i.3;
     }
 
-pub returns-in-default-verdict : goal.returns-in-default-verdict
-returns-in-default-verdict g c =
+pub returns-in_default-verdict : goal.returns-in_default-verdict
+returns-in_default-verdict g c =
     let i = c.loop-frame.invariant in
     record {
       all =
           sym i.4
           ∙ settle_fault g.Q.QuantitySet.meaning c.args.rows.now (entries c.loop-frame.scope.slots.now c.loop-frame.scope.len)
           c.in-Some.frame (entries c.loop-frame.frames.slots.now c.loop-frame.frames.len) _ c.rule-verdict.result
-          c.in-default-verdict.field-0 c.in-Some.ensures (sym c.if-not-full.ensures) (sym c.rule-verdict.ensures)
-          c.in-default-verdict.is;
-      scope-long = i.0;
-      scope-same = i.2;
-      frames-long = i.1;
-      frames-same = i.3;
+          c.in_default-verdict.field-0 c.in-Some.ensures (sym c.if-not-full.ensures) (sym c.rule-verdict.ensures)
+          c.in_default-verdict.is;
+      scope_long = i.0;
+      scope_same = i.2;
+      frames_long = i.1;
+      frames_same = i.3;
     }

@@ -5,12 +5,12 @@ pub returns : goal.returns
 returns c =
     let ws = c.args.self.now.words.now in
     let i = c.args.self.now.at in
-    let e = c.past-term.new.self.at in
-    let r = c.past-term.result in
-    let p = c.past-term.ensures.step in
+    let e = c.past_term.new.self.at in
+    let r = c.past_term.result in
+    let p = c.past_term.ensures.step in
     record {
       terms = over_term ws i e r p;
       known = over_known ws i e r p;
       part = over_part ws i e r p;
-      words = c.past-term.ensures.words;
+      words = c.past_term.ensures.words;
     }

@@ -65,7 +65,7 @@ module _ (m : Meaning) (L : Lawful m) (words : List ℕ) (s n : ℕ) (hs : 256 �
       ap (λ k. run m p.rows s n (suc k) [] [] (drop (suc k) words)) l
       ∙ ap (λ r. run m r s n (suc (length table)) [] [] (drop (suc (length table)) words)) e
       ∙ ap (run m (table_words table) s n (suc (length table)) [] []) rest
-      ∙ run_term m (table_words table) s n t P.Term-fits (suc (length table)) [] (omega (arith, P.shallow)) (omega (arith, P.shallow))
+      ∙ run_term m (table_words table) s n t P.term_fits (suc (length table)) [] (omega (arith, P.shallow)) (omega (arith, P.shallow))
 
   read : (p : Split) → read_program m.bases words ≡ Ok p → Read p
   read p e =

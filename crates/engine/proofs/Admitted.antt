@@ -40,7 +40,7 @@ module _ (m : Meaning) (law : Law m) (program : List ℕ) (s n : ℕ) (hs : 256 
       let q : Split = record { rows = table_words a.table; term = encode a.term } in
       let r : read_program m.bases program ≡ Ok q = (programs.accepted m.bases program q).1 (a.table, a.term, P, refl, refl) in (
         a.term,
-        ap (λ v. term_if_admitted v (term_read (read_program m.bases program))) e ∙ ap term_read r ∙ ap Ok (own_term a.term P.Term-fits),
-        P.Term-fits,
+        ap (λ v. term_if_admitted v (term_read (read_program m.bases program))) e ∙ ap term_read r ∙ ap Ok (own_term a.term P.term_fits),
+        P.term_fits,
         ap (λ x. x.term) (parted m.bases program q p r h),
       )

@@ -2,7 +2,7 @@
 ghost use Rattle.std.specs.Prelude.{◌≡◌};
 ghost use Rattle.form.specs.Parted.{words_of, counts};
 ghost use Rattle.layout.specs.Layout.{read_word};
-ghost use Rattle.programs.specs.Reading.{split as splitOf, as_head, read_head, in_range};
+ghost use Rattle.programs.specs.Reading.{split as split_of, as_head, read_head, in_range};
 
 use crate::program::Program;
 use faults::Fault;
@@ -31,7 +31,7 @@ fn read_counts(word: u32) -> Option<(u16, u16)>
 
 // Whether the counts are in range for a set with so many bases, and fit the number of words after the head.
 fn fits(bases: u8, rows: u16, term_words: u16, words: usize) -> bool
-    ensures { result ≡ in_range bases (record { rows = rows; term-words = term_words }) words }
+    ensures { result ≡ in_range bases (record { rows = rows; term_words = term_words }) words }
 {
     let (rows, term_words) = (rows as usize, term_words as usize);
     bases as usize + 2 <= rows
@@ -43,7 +43,7 @@ fn fits(bases: u8, rows: u16, term_words: u16, words: usize) -> bool
 
 // The words after the head, parted into rows and term; fault 4 where there is no head, or its counts do not fit.
 pub fn split<'a>(words: &'a [u32], bases: u8) -> Result<Program<'a>, Fault>
-    ensures { words_of result ≡ splitOf bases words.now }
+    ensures { words_of result ≡ split_of bases words.now }
 {
     let [head, rest @ ..] = words else {
         return Err(Fault::new(FaultNumber::Head, 0));

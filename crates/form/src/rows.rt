@@ -1,7 +1,7 @@
 // The rows of a program: each keeps its rule, and no two are alike.
 ghost use Rattle.std.specs.Prelude.{◌≡◌, ℕ, []};
 ghost use Rattle.form.specs.Parted.{fine};
-ghost use Rattle.programs.specs.Rows.{as_row, row_may_stand, row_rule, among as amongOf, rows_fault};
+ghost use Rattle.programs.specs.Rows.{as_row, row_may_stand, row_rule, among as among_of, rows_fault};
 
 use faults::Fault;
 use faults::numbers::FaultNumber;
@@ -47,7 +47,7 @@ fn keeps_rule(bases: u8, r: usize, word: u32) -> bool
 
 // Whether a word is among some.
 fn among(words: &[u32], word: u32) -> bool
-    ensures { result ≡ amongOf word words.now }
+    ensures { result ≡ among_of word words.now }
 {
     for other in words {
         if *other == word {

@@ -6,7 +6,7 @@ use Rattle.form.proofs.term.check_term.Given as goal
 abbrev pub invariant-loop-word : goal.invariant-loop-word
 invariant-loop-word l =
     (length l.due.slots.now ≡ 257)
-    × (l.due.slots.name ≡ l.initial.due.slots.name)
+    × (l.due.slots.ghost_name ≡ l.initial.due.slots.ghost_name)
     × (l.cursor.words.now ≡ l.term)
     × (l.cursor.at ≤ length l.term)
     × (term_fault l.rows (l.cursor.at + suc (length l.rows)) (entries l.due.slots.now l.due.len) (drop l.cursor.at l.term)

@@ -7,8 +7,8 @@ abbrev pub invariant-loop-place : goal.invariant-loop-place
 invariant-loop-place g l =
     (length l.scope.slots.now ≡ length l.initial.scope.slots.now)
     × (length l.frames.slots.now ≡ length l.initial.frames.slots.now)
-    × (l.scope.slots.name ≡ l.initial.scope.slots.name)
-    × (l.frames.slots.name ≡ l.initial.frames.slots.name)
+    × (l.scope.slots.ghost_name ≡ l.initial.scope.slots.ghost_name)
+    × (l.frames.slots.ghost_name ≡ l.initial.frames.slots.ghost_name)
     × (run g.Q.QuantitySet.meaning l.rows (length l.initial.scope.slots.now) (length l.initial.frames.slots.now) l.place (entries l.frames.slots.now l.frames.len) (entries l.scope.slots.now l.scope.len) (drop l.place l.words)
     ≡ run g.Q.QuantitySet.meaning l.rows (length l.initial.scope.slots.now) (length l.initial.frames.slots.now) l.at [] [] (drop l.at l.words))
 

@@ -7,8 +7,8 @@ abbrev pub invariant-loop-frame : goal.invariant-loop-frame
 invariant-loop-frame g l =
     (length l.scope.slots.now ≡ length l.initial.scope.slots.now)
     × (length l.frames.slots.now ≡ length l.initial.frames.slots.now)
-    × (l.scope.slots.name ≡ l.initial.scope.slots.name)
-    × (l.frames.slots.name ≡ l.initial.frames.slots.name)
+    × (l.scope.slots.ghost_name ≡ l.initial.scope.slots.ghost_name)
+    × (l.frames.slots.ghost_name ≡ l.initial.frames.slots.ghost_name)
     × (settle g.Q.QuantitySet.meaning l.rows (entries l.scope.slots.now l.scope.len) (entries l.frames.slots.now l.frames.len)
     ≡ settle g.Q.QuantitySet.meaning l.rows (entries l.initial.scope.slots.now l.initial.scope.len) (entries l.initial.frames.slots.now l.initial.frames.len))
 

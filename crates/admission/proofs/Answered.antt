@@ -1,12 +1,10 @@
 -- What admit answers where the lists are long enough.
-use Rattle.std.proofs.Common.{◌≡◌, ℕ, suc, ◌+◌, ◌≤◌, Bool, true, false, cond, ◌||◌, ltb, List, [], length, drop, Ok, Err, Result, sym, refl, ap, ◌∙◌}
+use Rattle.std.proofs.Common.{◌≡◌, ℕ, suc, ◌≤◌, cond, ltb, List, [], length, drop, Ok, Err, sym, ap, ◌∙◌}
 use Rattle.std.proofs.lemmas.Bool.{le-ltb, or_from}
-use Rattle.faults.specs.declared.Fault.{Fault}
 use Rattle.faults.specs.declared.numbers.FaultNumber.TheVariants.{WorkShort}
 use Rattle.faults.specs.Faults.{fault_of}
 use Rattle.quantities.specs.Meaning.{Meaning}
 use Rattle.programs.specs.Reading.{Split, read_program}
-use Rattle.rules.specs.Rules.{Verdict}
 use Rattle.typing.specs.Machine.{run}
 use Rattle.admission.specs.Admission.{checked_parts, admit_answer}
 

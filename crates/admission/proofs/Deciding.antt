@@ -1,19 +1,17 @@
 -- What admit answers decides whether a program has a type.
-use Rattle.std.proofs.Common.{◌≡◌, ℕ, suc, ◌+◌, ◌≤◌, ◌⊎◌, ◌↔◌, List, [], ◌∷◌, ◌++◌, length, drop, Ok, Err, Result, sym, refl, ap, ◌∙◌, subst, inl, inr, append-nil, arith}
+use Rattle.std.proofs.Common.{◌≡◌, ℕ, suc, ◌≤◌, ◌⊎◌, List, [], ◌∷◌, ◌++◌, length, drop, Ok, Err, Result, sym, refl, ap, ◌∙◌, inl, inr, append-nil, arith}
 use Rattle.std.proofs.lemmas.List.{drop_at}
 use Rattle.faults.specs.declared.Fault.{Fault}
 use Rattle.quantities.specs.Meaning.{Meaning, Lawful}
 use Rattle.calculus.specs.Terms.{Term, unit, variable, abstraction, coroutine, application, yield, start, resume, snapshot, fix, atom, operation, instance, resumption, suspension, Program}
-use Rattle.calculus.specs.Rows.{Row, Setting, WellFormed}
+use Rattle.calculus.specs.Rows.{Row, WellFormed}
 use Rattle.encoding.specs.Encoding.{encode}
 use Rattle.programs.specs.Tables.{table_words}
 use Rattle.programs.specs.Programs.{Allowed, ProgramWords}
 use Rattle.programs.specs.Reading.{Split, read_program}
 use Rattle.programs.proofs.Programs as programs
-use Rattle.rules.specs.Rules.{Verdict, accepted}
+use Rattle.rules.specs.Rules.{accepted}
 use Rattle.judging.specs.Verdicts.{verdict}
-use Rattle.judging.specs.Answers.{Least}
-use Rattle.judging.specs.Places.{Located}
 use Rattle.judging.proofs.Typings.{typings}
 use Rattle.judging.proofs.Located.{located}
 use Rattle.typing.specs.Machine.{run}

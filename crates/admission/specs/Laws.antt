@@ -1,5 +1,5 @@
 -- What admit's answer says of a program, in the words of the calculus.
-use Rattle.std.specs.Prelude.{◌≡◌, ℕ, suc, ◌≤◌, ◌⊎◌, ◌↔◌, List, length, Err}
+use Rattle.std.specs.Prelude.{◌≡◌, ℕ, suc, ◌⊎◌, ◌↔◌, List, length, Err}
 use Rattle.faults.specs.declared.Fault.{Fault}
 use Rattle.quantities.specs.Meaning.{Meaning}
 use Rattle.calculus.specs.Terms.{Term}

@@ -7,7 +7,6 @@ use Rattle.calculus.specs.Configurations.{row_of, Bindings, rows}
 use Rattle.calculus.specs.Steps.{Step, Growth, same_rows, one_more}
 use Rattle.calculus.specs.Histories.{Later, at_once, then_step, then_take, Added, Lasts}
 use Rattle.calculus.specs.StatementsOfPlaces.{Lasting}
-use Rattle.calculus.proofs.Rows.{row}
 use Rattle.calculus.proofs.Bindings.{at_last, at_rows, at_unrows, grown_longer, grown_same}
 use Rattle.calculus.proofs.Growth.{grows}
 

@@ -1,5 +1,7 @@
 // Shows, stage by stage, what the layers do: words are built and read, programs are read and admitted, quantity sets are asked, and
 // refusals are printed.
+#![tactic(auto)]
+
 mod admission_shown;
 mod programs_shown;
 mod quantities_shown;

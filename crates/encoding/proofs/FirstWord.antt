@@ -4,8 +4,6 @@ use Rattle.std.proofs.lemmas.Bool.{and_parts, ltb-true}
 use Rattle.calculus.specs.Terms.{Term, unit, variable, abstraction, coroutine, application, yield, start, resume, snapshot, fix, atom, operation, instance, resumption, suspension}
 use Rattle.calculus.specs.Parts.{parts}
 use Rattle.words.specs.Kinds.{number_of}
-use Rattle.layout.specs.declared.Word.{Word}
-use Rattle.layout.specs.declared.Word.TheVariants as W
 use Rattle.layout.specs.Layout.{kind_of, word_of, read_word}
 use Rattle.layout.proofs.Exact.{read_exact}
 use Rattle.encoding.specs.Encoding.{first_word, FirstFits}

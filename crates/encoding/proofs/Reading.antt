@@ -1,13 +1,10 @@
 -- The terms that words stand for, read from the end of the words, and that there is one reading only.
-use Rattle.std.proofs.Common.{◌≡◌, ℕ, List, [], ◌∷◌, ◌++◌, length, drop, Some, None, Option, sym, refl, ap, ◌∙◌, append_assoc}
+use Rattle.std.proofs.Common.{◌≡◌, ℕ, List, [], ◌∷◌, ◌++◌, length, sym, refl, ap, ◌∙◌, append_assoc}
 use Rattle.std.specs.List.{AllByRecursion as All}
 use Rattle.std.proofs.lemmas.List.{append_cancel_left, drop_at}
-use Rattle.calculus.specs.Terms.{Term, unit}
+use Rattle.calculus.specs.Terms.{Term}
 use Rattle.calculus.specs.Parts.{parts}
-use Rattle.layout.specs.declared.Word.{Word}
-use Rattle.layout.specs.Layout.{read_word}
 use Rattle.encoding.specs.Encoding.{encode, encodes, Fits}
-use Rattle.encoding.specs.Scanning.{arity_of}
 use Rattle.encoding.specs.Laws.{Unique}
 use Rattle.encoding.proofs.Parts.{encode_is, by_parts, fits_parts}
 use Rattle.encoding.specs.Decoding.{terms_in}

@@ -1,5 +1,5 @@
 -- Steps of a cursor over words, from place i to place e, by what they answer.
-use Rattle.std.specs.Prelude.{◌≡◌, ℕ, ◌+◌, ◌-◌, ◌<◌, ◌≤◌, List, length, drop, Some, None, Option, MatchOption, slice_index, slice_range}
+use Rattle.std.specs.Prelude.{◌≡◌, ℕ, ◌+◌, ◌<◌, ◌≤◌, List, length, drop, Some, None, Option, MatchOption, slice_index, slice_range}
 use Rattle.std.specs.Borrow.{Bor}
 use Rattle.calculus.specs.Terms.{Term}
 use Rattle.calculus.specs.Parts.{size}

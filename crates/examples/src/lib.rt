@@ -1,3 +1,5 @@
+#![tactic(auto)]
+
 // Examples of what the layers do, as tests.
 #[cfg(test)]
 mod admission_tests;

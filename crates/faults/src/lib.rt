@@ -1,4 +1,6 @@
 // What is answered when the engine says no.
+#![tactic(auto)]
+
 pub mod methods;
 pub mod numbers;
 

@@ -1,5 +1,5 @@
 -- The head and the counts in order: the words after the head are parted.
-use Rattle.std.proofs.Common.{◌≡◌, ℕ, true, cond, List, ◌∷◌, length, take, drop, Some, Ok, Err, Result, sym, refl, ap, ◌∙◌, ap₂}
+use Rattle.std.proofs.Common.{◌≡◌, ℕ, true, cond, List, ◌∷◌, length, take, drop, Some, Ok, Err, Result, sym, ap, ◌∙◌, ap₂}
 use Rattle.faults.specs.declared.Fault.{Fault}
 use Rattle.faults.specs.declared.numbers.FaultNumber.TheVariants.{Head}
 use Rattle.faults.specs.Faults.{fault_of}

@@ -1,5 +1,5 @@
 -- What the form reader's answers say, as words.
-use Rattle.std.specs.Prelude.{ℕ, List, Some, None, Ok, Err, Option, Result}
+use Rattle.std.specs.Prelude.{ℕ, Some, None, Ok, Err, Option, Result}
 use Rattle.faults.specs.declared.Fault.{Fault}
 use Rattle.programs.specs.Reading.{Stated, Split}
 use Rattle.form.specs.declared.program.Program.{Program}

@@ -1,4 +1,6 @@
 // The form reader: from any words and the number of bases of a set to the rows and the term of a program, or the first fault.
+#![tactic(auto)]
+
 pub mod head;
 pub mod program;
 pub mod reading;

@@ -5,7 +5,7 @@ use Rattle.faults.specs.Faults.{fault_of}
 use Rattle.quantities.specs.Counts.{counts}
 use Rattle.quantities.specs.CountsLaw.{counts_lawful}
 use Rattle.rules.specs.Rules.{Verdict, accepted, refused}
-use Rattle.calculus.specs.Terms.{Term, unit, variable, abstraction, coroutine, application, yield, start, resume, snapshot, fix, atom, operation}
+use Rattle.calculus.specs.Terms.{Term, unit, variable, abstraction, coroutine, application, yield, start, resume, atom, operation}
 use Rattle.calculus.specs.Rows.{Row, unit_type, bottom_type, base_type, function_type, coroutine_type, instance_type, Setting, WellFormed}
 use Rattle.calculus.proofs.Tables.{well_formed}
 use Rattle.programs.specs.Tables.{table_words}

@@ -1,6 +1,6 @@
 -- What the rules of types say: where a rule refuses its parts, it does so at its place, by 13 if it accepts the same parts
 -- with yield type ⊥, and by 12 if it does not.
-use Rattle.std.proofs.Common.{◌≡◌, ℕ, ◌+◌, Bool, true, false, cond, ◌&&◌, ◌||◌, eqb, ◌⊎◌, List, Some, Ok, Err, sym, refl, ap, ◌∙◌, inl, inr, arith}
+use Rattle.std.proofs.Common.{◌≡◌, ℕ, ◌+◌, Bool, true, false, cond, ◌&&◌, ◌||◌, eqb, ◌⊎◌, List, Some, Ok, Err, sym, refl, ap, inl, inr, arith}
 use Rattle.faults.specs.declared.Fault.{Fault}
 use Rattle.faults.specs.declared.numbers.FaultNumber.{FaultNumber}
 use Rattle.faults.specs.declared.numbers.FaultNumber.TheVariants.{Types, YieldType}

@@ -1,5 +1,5 @@
 -- The handlers of a resume, looked at one by one here and together there.
-use Rattle.std.proofs.Common.{◌≡◌, ℕ, Bool, true, false, cond, ◌&&◌, eqb, Some, None, Ok, Option, sym, refl, ap, ◌∙◌}
+use Rattle.std.proofs.Common.{◌≡◌, ℕ, Bool, true, false, cond, ◌&&◌, eqb, Some, None, Ok, refl, ap, ◌∙◌}
 use Rattle.faults.specs.declared.numbers.FaultNumber.TheVariants.{Types, YieldType}
 use Rattle.rules.specs.declared.model.Judged.{Judged}
 use Rattle.rules.specs.declared.model.Shape.{Shape}

@@ -1,16 +1,16 @@
 -- A term with variables for parts is judged by its rule, with the types of the parts and yield type ⊥.
-use Rattle.std.proofs.Common.{◌≡◌, ℕ, suc, ◌+◌, cond, eqb, ◌↔◌, List, [], ◌∷◌, get_or, Some, Ok, Option, sym, refl, ap, ◌∙◌, subst, ⊎_elim, arith}
+use Rattle.std.proofs.Common.{◌≡◌, ℕ, suc, ◌+◌, cond, eqb, ◌↔◌, List, [], ◌∷◌, get_or, Some, Ok, sym, refl, ap, ◌∙◌, subst, ⊎_elim, arith}
 use Rattle.std.proofs.lemmas.Bool.{eq-eqb, ne_eqb}
 use Rattle.quantities.specs.Meaning.{Meaning}
 use Rattle.rules.specs.declared.model.Judged.{Judged}
 use Rattle.rules.specs.declared.model.Variable.{Variable}
 use Rattle.rules.specs.Rules.{Verdict, look, variable_rule, abstraction_rule, coroutine_rule}
 use Rattle.calculus.specs.Terms.{Term, unit, variable, abstraction, coroutine, application, yield, start, resume, snapshot, fix, atom, operation, instance, resumption, suspension, Program}
-use Rattle.calculus.specs.Parts.{parts, with_parts, size}
-use Rattle.calculus.specs.Rows.{Setting, IsRow, WellFormed}
+use Rattle.calculus.specs.Parts.{parts, with_parts}
+use Rattle.calculus.specs.Rows.{Setting, WellFormed}
 use Rattle.calculus.specs.Typing.{Scope, bind, InScope, Typed}
-use Rattle.judging.specs.Verdicts.{after, bound, verdict}
-use Rattle.judging.specs.Answers.{scope_of, HasType}
+use Rattle.judging.specs.Verdicts.{after, verdict}
+use Rattle.judging.specs.Answers.{scope_of}
 use Rattle.judging.specs.Places.{HaveTypes, spare, variables, bind_all, TypedWithoutYields}
 use Rattle.judging.proofs.Tables.{Means}
 use Rattle.judging.proofs.Typings.{decided, has_typing, no_typing}

@@ -1,5 +1,5 @@
 -- The number of a refusal by the rule of a term's kind says why.
-use Rattle.std.proofs.Common.{◌≡◌, ℕ, ◌+◌, ◌<◌, Bool, true, false, cond, ◌&&◌, ltb, ◌⊎◌, ◌↔◌, List, Some, None, Ok, Err, Option, sym, refl, ap, ◌∙◌, inl, inr, ⊎_elim, arith}
+use Rattle.std.proofs.Common.{◌≡◌, ℕ, ◌+◌, Bool, true, false, cond, ◌&&◌, ltb, ◌↔◌, List, Some, None, Ok, Err, Option, sym, refl, ap, ◌∙◌, ⊎_elim, arith}
 use Rattle.std.proofs.lemmas.Bool.{lt-ltb}
 use Rattle.faults.specs.declared.Fault.{Fault}
 use Rattle.faults.specs.declared.numbers.FaultNumber.{FaultNumber}
@@ -11,7 +11,7 @@ use Rattle.rules.specs.declared.model.Variable.{Variable}
 use Rattle.rules.specs.Rules.{Verdict, accepted, refused, look as look_up, variable_rule, operation_rule}
 use Rattle.calculus.specs.Terms.{Term, unit, variable, abstraction, coroutine, application, yield, start, resume, snapshot, fix, atom, operation, instance, resumption, suspension}
 use Rattle.calculus.specs.Rows.{Setting}
-use Rattle.calculus.specs.Typing.{Scope, look}
+use Rattle.calculus.specs.Typing.{Scope}
 use Rattle.judging.specs.Answers.{scope_of}
 use Rattle.judging.specs.Places.{OutOfScope, OutOfSet}
 use Rattle.judging.specs.Places.OutOfScope.{unbound}

@@ -1,5 +1,5 @@
 -- Scopes: what is in scope has a row of the table, also in the parts of a term.
-use Rattle.std.proofs.Common.{◌≡◌, ℕ, zero, suc, ◌<◌, Bool, true, false, cond, eqb, List, [], ◌∷◌, length, Some, None, Option, sym, refl, ap, ◌∙◌, subst, arith}
+use Rattle.std.proofs.Common.{◌≡◌, ℕ, zero, suc, ◌<◌, Bool, true, false, cond, eqb, List, [], ◌∷◌, length, Some, None, Option, refl, ap, ◌∙◌, subst, arith}
 use Rattle.quantities.specs.Meaning.{StatedAt}
 use Rattle.rules.specs.declared.model.Variable.{Variable}
 use Rattle.rules.specs.declared.model.Shape.{Shape}

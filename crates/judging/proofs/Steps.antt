@@ -1,11 +1,11 @@
 -- Steps of a verdict against those of a judgement: what follows a part, a test, and the look at a row.
-use Rattle.std.proofs.Common.{◌≡◌, ℕ, Bool, true, false, cond, ◌&&◌, Some, None, Ok, Err, Option, sym, refl, ap, ◌∙◌}
+use Rattle.std.proofs.Common.{◌≡◌, ℕ, Bool, true, false, cond, ◌&&◌, Some, None, Ok, Err, Option, refl, ap, ◌∙◌}
 use Rattle.faults.specs.declared.numbers.FaultNumber.{FaultNumber}
 use Rattle.rules.specs.declared.model.Judged.{Judged}
 use Rattle.rules.specs.declared.model.Shape.{Shape}
 use Rattle.rules.specs.declared.model.Shape.TheVariants.{UnitRow, BottomRow, BaseRow, FunctionRow, CoroutineRow, InstanceRow, NoRow}
 use Rattle.rules.specs.Table.{on_function, on_coroutine, on_instance}
-use Rattle.rules.specs.Rules.{Verdict, accepted, refused}
+use Rattle.rules.specs.Rules.{Verdict, refused}
 use Rattle.calculus.specs.Rows.{Row}
 use Rattle.calculus.specs.Judgement.{Judgement, and_then, only_if, as_function, as_coroutine, as_instance}
 use Rattle.judging.specs.Verdicts.{after}

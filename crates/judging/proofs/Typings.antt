@@ -1,5 +1,5 @@
 -- What a verdict says of the types of a term.
-use Rattle.std.proofs.Common.{◌≡◌, ℕ, ◌⊎◌, List, [], ◌∷◌, Some, None, Ok, Err, Option, sym, refl, ap, ◌∙◌, subst, ap₂, inl, inr, ⊎_elim, arith}
+use Rattle.std.proofs.Common.{◌≡◌, ℕ, ◌⊎◌, List, [], Some, None, Ok, Err, sym, refl, ap, ◌∙◌, subst, ap₂, inl, inr, ⊎_elim, arith}
 use Rattle.faults.specs.declared.Fault.{Fault}
 use Rattle.rules.specs.declared.model.Judged.{Judged}
 use Rattle.rules.specs.declared.model.Variable.{Variable}
@@ -7,10 +7,9 @@ use Rattle.rules.specs.Rules.{Verdict, accepted}
 use Rattle.calculus.specs.Terms.{Term, Program}
 use Rattle.calculus.specs.Rows.{Setting, WellFormed}
 use Rattle.calculus.specs.Typing.{InScope, Reads, as_is, raised, Typed}
-use Rattle.calculus.specs.Judgement.{Judgement, judged, judge}
+use Rattle.calculus.specs.Judgement.{Judgement, judged}
 use Rattle.calculus.proofs.Checking.{checking}
-use Rattle.std.specs.List.{AllByRecursion as All}
-use Rattle.programs.specs.Tables.{table_words, RowFits}
+use Rattle.programs.specs.Tables.{table_words}
 use Rattle.judging.specs.Verdicts.{verdict}
 use Rattle.judging.specs.Answers.{scope_of, judgement_of, answer_of, Least}
 use Rattle.judging.specs.Statements.{VerdictsAreTypings}

@@ -3,7 +3,6 @@ use Rattle.std.specs.Prelude.{ℕ, ◌+◌, List, ◌∷◌, Ok, Err, Result}
 use Rattle.faults.specs.declared.Fault.{Fault}
 use Rattle.faults.specs.declared.numbers.FaultNumber.TheVariants.{Types}
 use Rattle.quantities.specs.Meaning.{Meaning}
-use Rattle.rules.specs.declared.model.Judged.{Judged}
 use Rattle.rules.specs.declared.model.Variable.{Variable}
 use Rattle.rules.specs.Table.{shape_at, argument_of}
 use Rattle.rules.specs.Rules.{Verdict, refused, look, unit_rule, variable_rule, abstraction_rule, coroutine_rule, application_rule, yield_rule, start_rule, resume_rule, snapshot_rule, fix_rule, atom_rule, operation_rule}

@@ -1,4 +1,6 @@
 // Words by their kind and fields: a word is built as a number of 32 bits, and read back. Bits without a use are zero.
+#![tactic(auto)]
+
 ghost use Rattle.std.specs.Prelude.{◌≡◌, ℕ, ◌↔◌, Some};
 ghost use Rattle.layout.specs.Layout.{kind_of, parts_of, built, read_word, Reads};
 

@@ -1,4 +1,6 @@
 // Measures admit: its time for terms of several lengths, and for tables of several lengths. Without an argument it only says so.
+#![tactic(auto)]
+
 use admission::admitting::admit;
 use quantities::counts::Counts;
 use rules::model::{Judged, Variable};

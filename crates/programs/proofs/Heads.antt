@@ -9,7 +9,7 @@ use Rattle.layout.specs.declared.Word.{Word}
 use Rattle.layout.specs.declared.Word.TheVariants as W
 use Rattle.layout.specs.Layout.{fields_of, fit, word_of, read_word}
 use Rattle.layout.proofs.Exact.{read_exact}
-use Rattle.programs.specs.Reading.{Stated, as_head, read_head, in_range, Split, split_by, split, checked, read_program}
+use Rattle.programs.specs.Reading.{Stated, as_head, read_head, in_range, Split, split_by, split, checked}
 use Rattle.programs.specs.Programs.{Headed}
 use Rattle.programs.specs.Laws.{Heads}
 use Rattle.programs.proofs.Impossible.{none}

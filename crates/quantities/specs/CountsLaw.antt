@@ -1,11 +1,11 @@
 -- Counts keep the law of a quantity set.
-use Rattle.std.specs.Prelude.{◌≡◌, ℕ, ◌^◌, ◌<◌, Bool, true, false, cond, ◌&&◌, None, Option, ◌==◌, nat_lt, refl}
+use Rattle.std.specs.Prelude.{◌≡◌, ℕ, ◌^◌, ◌<◌, true, false, cond, None, Option, ◌==◌, nat_lt}
 use Rattle.std.proofs.Common.{arith, lit<, lit≤}
 use Rattle.std.proofs.lemmas.Bool.Decides.{nat_tests}
 use Rattle.std.proofs.lemmas.Bool.{cond_both}
 use Rattle.quantities.specs.declared.Signature.{Signature}
 use Rattle.quantities.specs.Meaning.{Lawful, takes, fits_at, StatedAt, ClosedAt}
-use Rattle.quantities.specs.Counts.{counts, counts_holds, counts_signature, counts_result, of_counts}
+use Rattle.quantities.specs.Counts.{counts, counts_holds, counts_signature, counts_result}
 
 -- what holds of the signature of an operation, by cases of the operation
 by_operation :

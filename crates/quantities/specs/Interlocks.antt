@@ -1,5 +1,5 @@
 -- Interlocks: one base with the conditions 0 run, 1 hold, 2 stop and 3 fault.
-use Rattle.std.specs.Prelude.{ℕ, max, Bool, false, cond, ◌&&◌, List, [], ◌∷◌, None, Option, ◌==◌, nat_lt, slice_index, slice_index_or}
+use Rattle.std.specs.Prelude.{ℕ, max, Bool, cond, ◌&&◌, List, [], ◌∷◌, None, Option, ◌==◌, nat_lt, slice_index, slice_index_or}
 use Rattle.quantities.specs.declared.Signature.{Signature}
 use Rattle.quantities.specs.Meaning.{Meaning, takes}
 

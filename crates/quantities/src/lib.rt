@@ -1,4 +1,6 @@
 // Quantity sets: what a sequence computes with. A set has base types, payloads in them, and operations on two payloads.
+#![tactic(auto)]
+
 ghost use Rattle.std.specs.Prelude.{◌≡◌, ℕ, ◌+◌, ◌-◌, ◌*◌, ◌/◌, ◌%◌, ◌^◌, ◌<◌, ◌≤◌};
 ghost use Rattle.quantities.specs.Meaning.{Meaning, Lawful};
 

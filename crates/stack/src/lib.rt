@@ -1,4 +1,6 @@
 // A stack over a lent slice, for any kind of entry. When it is dropped, all slots of the slice are blank.
+#![tactic(auto)]
+
 ghost use Rattle.std.specs.Prelude.{◌≡◌, ℕ, ◌+◌, ◌-◌, ◌<◌, ◌≤◌, true, false, List, [], ◌∷◌, length, take, replicate, if◌then◌else◌, MatchOption, nat_lt, slice_index_or};
 ghost use Rattle.stack.specs.Entries.{entries, renewed};
 

@@ -1,4 +1,4 @@
-use Rattle.std.proofs.Common.{◌≡◌, length, sym, subst}
+use Rattle.std.proofs.Common.{length, sym, subst}
 use Rattle.rules.specs.Rules.{Verdict}
 use Rattle.admission.specs.Laws.{Decides}
 use Rattle.admission.proofs.Deciding.{decides}

@@ -1,4 +1,4 @@
-use Rattle.std.proofs.Common.{◌≡◌, length, sym, arith, ltb-false, leb-false}
+use Rattle.std.proofs.Common.{length, arith, ltb-false, leb-false}
 use Rattle.std.specs.List.{between}
 use Rattle.std.proofs.lemmas.Slice.{first_rest}
 use Rattle.form.proofs.Parting.{parted}

@@ -1,4 +1,4 @@
-use Rattle.std.proofs.Common.{◌≡◌, sym, ◌∙◌}
+use Rattle.std.proofs.Common.{◌∙◌}
 use Rattle.form.proofs.RowLoops.{among_found, among_later, among_none}
 use Rattle.form.proofs.rows.among.Goals as goal
 

@@ -1,4 +1,4 @@
-use Rattle.std.proofs.Common.{◌≡◌, take, Err, sym, ap, ◌∙◌}
+use Rattle.std.proofs.Common.{take, Err, ap, ◌∙◌}
 use Rattle.form.specs.Parted.{fine}
 use Rattle.form.proofs.RowLoops.{row_bad, row_twice, row_good, rows_end}
 use Rattle.form.proofs.rows.check_rows.Goals as goal

@@ -1,4 +1,4 @@
-use Rattle.std.proofs.Common.{◌≡◌, ◌-◌, ◌∷◌, sym, ap, ◌∙◌, arith}
+use Rattle.std.proofs.Common.{◌-◌, ◌∷◌, sym, ap, ◌∙◌, arith}
 use Rattle.stack.specs.Entries.{entries}
 use Rattle.stack.proofs.Entries.{newest}
 use Rattle.stack.proofs.Stack.top.Goals as goal

@@ -1,6 +1,6 @@
 -- The depths of the words of a term: one for each word, and the greatest is the term's depth.
 use Rattle.std.proofs.Common.{◌≡◌, ℕ, suc, ◌+◌, max, List, [], ◌∷◌, ◌++◌, length, sym, refl, ap, ◌∙◌, append-nil, arith, length-append}
-use Rattle.std.specs.List.{AllByRecursion as All}
+use Rattle.std.specs.List.{AllByRecursion}
 use Rattle.calculus.specs.Terms.{Term, unit, variable, abstraction, coroutine, application, yield, start, resume, snapshot, fix, atom, operation, instance, resumption, suspension}
 use Rattle.calculus.specs.Parts.{parts, size, sizes}
 use Rattle.encoding.specs.Depths.{depth, deepest, depths_from, all_depths_from, greatest}
@@ -57,7 +57,7 @@ record DeepAll (d : ℕ) (ts : List Term) : Type 0 where
   count : length (all_depths_from (suc d) ts) ≡ sizes ts
   most : max d (greatest (all_depths_from (suc d) ts)) ≡ d + deepest ts
 
-deep_all : (ts : List Term) → All (λ t. (d : ℕ) → Deep d t) ts → (d : ℕ) → DeepAll d ts
+deep_all : (ts : List Term) → AllByRecursion (λ t. (d : ℕ) → Deep d t) ts → (d : ℕ) → DeepAll d ts
 deep_all [] a d = record { count = refl; most = omega arith }
 deep_all (t ∷ ts) a d =
     let h = a.0 (suc d) in
@@ -69,7 +69,7 @@ deep_all (t ∷ ts) a d =
       most = omega (arith, greatest_append xs ys, h.most, k.most);
     }
 
-deep_step : (t : Term) → All (λ u. (d : ℕ) → Deep d u) (parts t) → (d : ℕ) → Deep d t
+deep_step : (t : Term) → AllByRecursion (λ u. (d : ℕ) → Deep d u) (parts t) → (d : ℕ) → Deep d t
 deep_step t a d =
     let k = deep_all (parts t) a d in
     record {

@@ -1,6 +1,6 @@
 -- Words that the scan accepts are those of terms.
 use Rattle.std.proofs.Common.{◌≡◌, ℕ, zero, suc, ◌+◌, ◌/◌, ◌^◌, ◌≤◌, Bool, true, false, cond, ltb, List, [], ◌∷◌, ◌++◌, length, get_or, take, drop, Some, None, Option, sym, refl, ap, ◌∙◌, subst, arith}
-use Rattle.std.specs.List.{AllByRecursion as All}
+use Rattle.std.specs.List.{AllByRecursion}
 use Rattle.std.proofs.lemmas.List.{take-append-drop, length-drop}
 use Rattle.std.proofs.ByRecursion.{All-take, All-drop}
 use Rattle.calculus.specs.Terms.{Term, unit}
@@ -72,7 +72,7 @@ record Made (w : ℕ) (ts : List Term) : Type 0 where
   rest : parts whole ≡ take (arity_of w) ts
 
 made_of :
-    (w : ℕ) (x : Word) (ts : List Term) → All Fits ts → Reads w x → ltb (number_of (kind_of x)) 15 ≡ true →
+    (w : ℕ) (x : Word) (ts : List Term) → AllByRecursion Fits ts → Reads w x → ltb (number_of (kind_of x)) 15 ≡ true →
     arity_of w ≤ length ts → Made w ts
 made_of w x ts a r k n =
     let j = joined x ts k in
@@ -83,13 +83,13 @@ made_of w x ts a r k n =
     let p : parts (node x ts) ≡ take (arity_of w) ts = j.1 (subst (λ m. m ≤ length ts) c n) ∙ ap (λ m. take m ts) (sym c) in
     record {
       whole = node x ts;
-      fits = parts_fit (node x ts) f (subst (λ us. All Fits us) (sym p) (All-take Fits (arity_of w) ts a));
+      fits = parts_fit (node x ts) f (subst (λ us. AllByRecursion Fits us) (sym p) (All-take Fits (arity_of w) ts a));
       first = i;
       rest = p;
     }
 
 made_read :
-    (w : ℕ) (ts : List Term) (o : Option Word) → read_word w ≡ o → of_term o ≡ true → All Fits ts → arity_of w ≤ length ts → Made w ts
+    (w : ℕ) (ts : List Term) (o : Option Word) → read_word w ≡ o → of_term o ≡ true → AllByRecursion Fits ts → arity_of w ≤ length ts → Made w ts
 made_read w ts None e k a n = never k
 made_read w ts (Some x) e k a n = made_of w x ts a ((read_exact w x).1 e) k n
 
@@ -97,7 +97,7 @@ made_read w ts (Some x) e k a n = made_of w x ts a ((read_exact w x).1 e) k n
 pub record Found (n i e : ℕ) (ws : List ℕ) : Type 0 where
   pub terms : List Term
   pub rest : List ℕ
-  pub fits : All Fits terms
+  pub fits : AllByRecursion Fits terms
   pub count : length terms ≡ n
   pub same : ws ≡ encodes terms ++ rest
   pub ends : e ≡ i + length (encodes terms)

@@ -1,6 +1,6 @@
 -- A term by its parts: its words, its size and its fields, and induction by parts.
 use Rattle.std.proofs.Common.{◌≡◌, suc, List, [], ◌∷◌, ◌++◌, length, sym, refl, ap, ◌∙◌, append_assoc, append-nil, arith, length-append}
-use Rattle.std.specs.List.{AllByRecursion as All}
+use Rattle.std.specs.List.{AllByRecursion}
 use Rattle.calculus.specs.Terms.{Term, unit, variable, abstraction, coroutine, application, yield, start, resume, snapshot, fix, atom, operation, instance, resumption, suspension}
 use Rattle.calculus.specs.Parts.{parts, size, sizes}
 use Rattle.layout.specs.Layout.{word_of}
@@ -43,7 +43,7 @@ size_is (resumption l a b c d) = omega arith
 size_is (suspension t v) = omega arith
 
 -- what holds of a term whenever it holds of its parts holds of every term
-module _ (P : Term → Type 0) (step : (t : Term) → All P (parts t) → P t) where
+module _ (P : Term → Type 0) (step : (t : Term) → AllByRecursion P (parts t) → P t) where
   pub by_parts : (t : Term) → P t
   by_parts unit = step unit tt
   by_parts (variable n) = step (variable n) tt
@@ -62,7 +62,7 @@ module _ (P : Term → Type 0) (step : (t : Term) → All P (parts t) → P t) w
   by_parts (suspension t v) = step (suspension t v) (by_parts t, (by_parts v, tt))
 
 -- a term fits exactly if its first word does and its parts do
-pub fits_parts : (t : Term) → Fits t → FirstFits t × All Fits (parts t)
+pub fits_parts : (t : Term) → Fits t → FirstFits t × AllByRecursion Fits (parts t)
 fits_parts unit h = (h, tt)
 fits_parts (variable n) h = (h, tt)
 fits_parts (abstraction x r b) h = (h.0, (h.1, tt))
@@ -79,7 +79,7 @@ fits_parts (instance l r) h = (h, tt)
 fits_parts (resumption l a b c d) h = (h.0, (h.1, (h.2, (h.3, (h.4, tt)))))
 fits_parts (suspension t v) h = (h.0, (h.1, (h.2, tt)))
 
-pub parts_fit : (t : Term) → FirstFits t → All Fits (parts t) → Fits t
+pub parts_fit : (t : Term) → FirstFits t → AllByRecursion Fits (parts t) → Fits t
 parts_fit unit h a = h
 parts_fit (variable n) h a = h
 parts_fit (abstraction x r b) h a = (h, a.0)
@@ -100,12 +100,12 @@ parts_fit (suspension t v) h a = (h, a.0, a.1.0)
 Sized : Term → Type 0
 Sized t = length (encode t) ≡ size t
 
-sized_all : (ts : List Term) → All Sized ts → length (encodes ts) ≡ sizes ts
+sized_all : (ts : List Term) → AllByRecursion Sized ts → length (encodes ts) ≡ sizes ts
 unfolding Sized
 sized_all [] a = refl
 sized_all (t ∷ ts) a = omega (arith, length-append (encode t) (encodes ts), a.0, sized_all ts a.1)
 
-sized_step : (t : Term) → All Sized (parts t) → Sized t
+sized_step : (t : Term) → AllByRecursion Sized (parts t) → Sized t
 unfolding Sized
 sized_step t a = ap length (encode_is t) ∙ ap suc (sized_all (parts t) a) ∙ sym (size_is t)
 

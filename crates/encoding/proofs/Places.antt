@@ -1,6 +1,6 @@
 -- A term that stands at a place among words: its words, its end and its parts.
 use Rattle.std.proofs.Common.{◌≡◌, ℕ, ◌+◌, ◌<◌, ◌≤◌, List, [], ◌∷◌, ◌++◌, length, get_or, take, drop, Some, None, Option, sym, ap, ◌∙◌, append_assoc, append-nil, add-zero, arith, length-drop, length-take, MatchOption}
-use Rattle.std.specs.List.{AllByRecursion as All}
+use Rattle.std.specs.List.{AllByRecursion}
 use Rattle.std.proofs.lemmas.List.{take-append-drop, take_at, drop_at, drop-drop, get_or-drop}
 use Rattle.calculus.specs.Terms.{Term}
 use Rattle.calculus.specs.Parts.{parts, size}
@@ -36,7 +36,7 @@ pub stands_alone : (t : Term) → Fits t → Stands t (encode t) 0
 stands_alone t f = stands_from t (encode t) 0 [] f (sym (append-nil (encode t)))
 
 one_found :
-    (ws : List ℕ) (i e : ℕ) (ts : List Term) (rest : List ℕ) → All Fits ts → length ts ≡ 1 → drop i ws ≡ encodes ts ++ rest →
+    (ws : List ℕ) (i e : ℕ) (ts : List Term) (rest : List ℕ) → AllByRecursion Fits ts → length ts ≡ 1 → drop i ws ≡ encodes ts ++ rest →
     e ≡ i + length (encodes ts) → (t : Term) × Stands t ws i × (e ≡ i + size t)
 one_found ws i e [] rest f n s q = absurd (omega arith)
 one_found ws i e (t ∷ u ∷ ts) rest f n s q = absurd (omega arith)
@@ -59,7 +59,7 @@ end_cases ws i None e = λ t s. let q = stands_scan t ws i s in let z : ◌≡�
 end_cases ws i (Some x) e = scan_stands ws i x (sym e)
 
 row_stands :
-    (ts : List Term) (ws : List ℕ) (i : ℕ) (rest : List ℕ) → All Fits ts → drop i ws ≡ encodes ts ++ rest → AllStand ts ws i
+    (ts : List Term) (ws : List ℕ) (i : ℕ) (rest : List ℕ) → AllByRecursion Fits ts → drop i ws ≡ encodes ts ++ rest → AllStand ts ws i
 row_stands [] ws i rest f e = tt
 row_stands (t ∷ ts) ws i rest f e =
     let g = e ∙ append_assoc (encode t) (encodes ts) rest in

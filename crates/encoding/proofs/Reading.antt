@@ -1,6 +1,6 @@
 -- The terms that words stand for, read from the end of the words, and that there is one reading only.
 use Rattle.std.proofs.Common.{◌≡◌, ℕ, List, [], ◌∷◌, ◌++◌, length, sym, refl, ap, ◌∙◌, append_assoc}
-use Rattle.std.specs.List.{AllByRecursion as All}
+use Rattle.std.specs.List.{AllByRecursion}
 use Rattle.std.proofs.lemmas.List.{append_cancel_left, drop_at}
 use Rattle.calculus.specs.Terms.{Term}
 use Rattle.calculus.specs.Parts.{parts}
@@ -13,13 +13,13 @@ use Rattle.encoding.proofs.FirstWord.{first_of}
 Read : Term → Type 0
 Read t = Fits t → (rest : List ℕ) → terms_in (encode t ++ rest) ≡ t ∷ terms_in rest
 
-read_all : (ts : List Term) → All Read ts → All Fits ts → (rest : List ℕ) → terms_in (encodes ts ++ rest) ≡ ts ++ terms_in rest
+read_all : (ts : List Term) → AllByRecursion Read ts → AllByRecursion Fits ts → (rest : List ℕ) → terms_in (encodes ts ++ rest) ≡ ts ++ terms_in rest
 unfolding Read
 read_all [] a f rest = refl
 read_all (t ∷ ts) a f rest =
     rw append_assoc (a.0 f.0 (encodes ts ++ rest) ∙ ap (λ us. t ∷ us) (read_all ts a.1 f.1 rest))
 
-read_step : (t : Term) → All Read (parts t) → Read t
+read_step : (t : Term) → AllByRecursion Read (parts t) → Read t
 unfolding Read
 read_step t a f rest =
     let b = fits_parts t f in

@@ -1,6 +1,6 @@
 -- The scan: one word more of it, and that it goes as far as a term reaches.
 use Rattle.std.proofs.Common.{◌≡◌, ℕ, zero, suc, ◌+◌, ◌-◌, ◌/◌, ◌^◌, ◌<◌, ◌≤◌, true, false, List, [], ◌∷◌, ◌++◌, length, get_or, drop, Some, None, refl, ap, ◌∙◌, append_assoc, arith}
-use Rattle.std.specs.List.{AllByRecursion as All}
+use Rattle.std.specs.List.{AllByRecursion}
 use Rattle.std.proofs.lemmas.List.{drop_more, drop_all}
 use Rattle.calculus.specs.Terms.{Term}
 use Rattle.calculus.specs.Parts.{parts, size, sizes}
@@ -9,7 +9,7 @@ use Rattle.encoding.specs.Scanning.{part_counts, arity_of, is_term_word, scan}
 use Rattle.encoding.proofs.Parts.{encode_is, size_is, by_parts, fits_parts}
 use Rattle.encoding.proofs.FirstWord.{first_of}
 
-get_d_keeps : (P : ℕ → Type 0) (xs : List ℕ) (k : ℕ) → P 0 → All P xs → P (get_or xs k 0)
+get_d_keeps : (P : ℕ → Type 0) (xs : List ℕ) (k : ℕ) → P 0 → AllByRecursion P xs → P (get_or xs k 0)
 get_d_keeps P [] k z a = z
 get_d_keeps P (x ∷ xs) zero z a = a.0
 get_d_keeps P (x ∷ xs) (suc k) z a = get_d_keeps P xs k z a.1
@@ -51,7 +51,7 @@ Reaches : Term → Type 0
 Reaches t = Fits t → (n i : ℕ) (rest : List ℕ) → scan (suc n) i (encode t ++ rest) ≡ scan n (i + size t) rest
 
 reaches_all :
-    (ts : List Term) → All Reaches ts → All Fits ts → (n i : ℕ) (rest : List ℕ) →
+    (ts : List Term) → AllByRecursion Reaches ts → AllByRecursion Fits ts → (n i : ℕ) (rest : List ℕ) →
     scan (n + length ts) i (encodes ts ++ rest) ≡ scan n (i + sizes ts) rest
 unfolding Reaches
 reaches_all [] a f n i rest = ap (λ m. scan m i rest) (omega arith) ∙ ap (λ m. scan n m rest) (omega arith)
@@ -62,7 +62,7 @@ reaches_all (t ∷ ts) a f n i rest =
     let l : i + size t + sizes ts ≡ i + (size t + sizes ts) = omega arith in
     rw (append_assoc, s) (h ∙ k ∙ ap (λ m. scan n m rest) l)
 
-reaches_step : (t : Term) → All Reaches (parts t) → Reaches t
+reaches_step : (t : Term) → AllByRecursion Reaches (parts t) → Reaches t
 unfolding Reaches
 reaches_step t a f n i rest =
     let b = fits_parts t f in

@@ -20,7 +20,7 @@ use Rattle.image.proofs.Exact.{image_reads, not_image}
 use Rattle.calls.specs.States.{Status, going, offering, ended, status_of, is_of}
 use Rattle.calls.specs.Entry.{of_status}
 use Rattle.calls.proofs.Showing.{term_stands}
-use Rattle.engine.specs.States.{number_refused, status_at}
+use Rattle.engine.specs.States.{status_number, status_at}
 use Rattle.engine.specs.Answers.{fault_in}
 
 suspension_kinds : (t : Term) → eqb (number_of (kind_of (first_word t))) 14 ≡ is_suspension t
@@ -41,7 +41,7 @@ suspension_kinds (resumption l a b c d) = refl
 suspension_kinds (suspension t v) = refl
 
 -- whether a term is of a state, by the numbers of both states
-in_state : (s : Status) (t : Term) → is_of s t ≡ eqb (number_refused (status_of t)) (number_refused s)
+in_state : (s : Status) (t : Term) → is_of s t ≡ eqb (status_number (status_of t)) (status_number s)
 in_state going unit = refl
 in_state going (variable n) = refl
 in_state going (abstraction x r b) = refl
@@ -102,18 +102,18 @@ module _ (image : List ℕ) (c : Configuration) (m : Image image c) where
   pub first_status : status_at (get_or image 1 0) ≡ status_of c.term
   first_status = standing_status c.term image 1 (term_stands image c m)
 
-module _ (image : List ℕ) (wanted : ℕ) (s : Status) (e : wanted ≡ number_refused s) where
+module _ (image : List ℕ) (wanted : ℕ) (s : Status) (e : wanted ≡ status_number s) where
   -- words that are no image
   pub no_image : is_image image ≡ false → Some (fault_of NotImage 0) ≡ fault_in (of_status s (reading image))
   no_image h = ap (λ r. fault_in (of_status s r)) (sym (not_image image h))
 
   -- an image, by whether the number of its state is the wanted one
-  by_number : (c : Configuration) → Image image c → (b : Bool) → eqb (number_refused (status_at (get_or image 1 0))) wanted ≡ b →
+  by_number : (c : Configuration) → Image image c → (b : Bool) → eqb (status_number (status_at (get_or image 1 0))) wanted ≡ b →
       cond b None (Some (fault_of OtherState 0)) ≡ fault_in (of_status s (reading image))
   by_number c m b h =
       let k : is_of s c.term ≡ b =
-      in_state s c.term ∙ ap (λ x. eqb (number_refused x) (number_refused s)) (sym (first_status image c m))
-      ∙ ap (λ n. eqb (number_refused (status_at (get_or image 1 0))) n) (sym e) ∙ h in
+      in_state s c.term ∙ ap (λ x. eqb (status_number x) (status_number s)) (sym (first_status image c m))
+      ∙ ap (λ n. eqb (status_number (status_at (get_or image 1 0))) n) (sym e) ∙ h in
       tested b ∙ ap (λ x. fault_in (cond x (Ok c) (Err (fault_of OtherState 0)))) (sym k)
       ∙ ap (λ r. fault_in (of_status s r)) (sym (image_reads image c m))
     where
@@ -121,9 +121,9 @@ module _ (image : List ℕ) (wanted : ℕ) (s : Status) (e : wanted ≡ number_r
       tested true = refl
       tested false = refl
 
-  pub other_state : is_image image ≡ true → (number_refused (status_at (get_or image 1 0)) ≡ wanted → ⊥) →
+  pub other_state : is_image image ≡ true → (status_number (status_at (get_or image 1 0)) ≡ wanted → ⊥) →
       Some (fault_of OtherState 0) ≡ fault_in (of_status s (reading image))
   other_state i h = let c = images_are image i in by_number c.0 c.1 false (ne_eqb _ wanted h)
 
-  pub that_state : is_image image ≡ true → number_refused (status_at (get_or image 1 0)) ≡ wanted → None ≡ fault_in (of_status s (reading image))
+  pub that_state : is_image image ≡ true → status_number (status_at (get_or image 1 0)) ≡ wanted → None ≡ fault_in (of_status s (reading image))
   that_state i h = let c = images_are image i in by_number c.0 c.1 true (eq-eqb _ wanted h)

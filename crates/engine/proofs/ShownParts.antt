@@ -18,7 +18,7 @@ use Rattle.calls.specs.States.{Status, going, offering, ended, is_of}
 use Rattle.calls.specs.Entry.{allowed_length, on_length, of_status, entered}
 use Rattle.calls.proofs.Points.{suspends}
 use Rattle.calls.proofs.Showing.{shows_itself, term_stands}
-use Rattle.engine.specs.States.{number_refused}
+use Rattle.engine.specs.States.{status_number}
 use Rattle.engine.specs.Answers.{fault_in}
 use Rattle.engine.specs.Showing.{ShownAt, ValuePlace}
 

@@ -6,11 +6,19 @@ use Rattle.calculus.specs.Configurations.{Configuration}
 use Rattle.calculus.specs.Views.{view}
 use Rattle.encoding.specs.Encoding.{encode, Stands}
 use Rattle.image.specs.Images.{Image}
-use Rattle.calls.specs.States.{Status, going, is_of}
+use Rattle.calls.specs.States.{Status, going, offering, ended, is_of}
 use Rattle.calls.specs.Results.{Part, shown_of, show_answer}
 use Rattle.engine.specs.declared.answers.Shown.{Shown}
-use Rattle.engine.specs.States.{number_refused}
+use Rattle.engine.specs.States.{status_number}
 use Rattle.engine.specs.Answers.{shown}
+
+-- an offer is not going
+pub offering_rests : offering ≢ going
+offering_rests e = cc
+
+-- an end is not going
+pub ended_rests : ended ≢ going
+ended_rests e = cc
 
 -- the value v that c shows stands at a place of the image
 pub record ShownAt (image : List ℕ) (c : Configuration) (place : ℕ) : Type 0 where
@@ -21,9 +29,9 @@ pub record ShownAt (image : List ℕ) (c : Configuration) (place : ℕ) : Type 0
 -- where the value stands that is shown in the state with this number, which is not going
 abbrev pub ValuePlace : List ℕ → ℕ → ℕ → Type 0
 ValuePlace image wanted place =
-    (s : Status) (c : Configuration) → wanted ≡ number_refused s → (s ≢ going) → Image image c → is_of s c.term ≡ true →
+    (s : Status) (c : Configuration) → wanted ≡ status_number s → (s ≢ going) → Image image c → is_of s c.term ≡ true →
     ShownAt image c place
 
 -- the answer of show in the state with this number, which is not going
 abbrev pub Shows : List ℕ → ℕ → Result Shown Fault → Type 0
-Shows image wanted r = (s : Status) → wanted ≡ number_refused s → (s ≢ going) → shown r ≡ show_answer s image
+Shows image wanted r = (s : Status) → wanted ≡ status_number s → (s ≢ going) → shown r ≡ show_answer s image

@@ -6,16 +6,16 @@ use Rattle.engine.specs.declared.states.State.{State}
 use Rattle.engine.specs.declared.states.State.TheVariants as S
 
 -- the number of a state
-abbrev pub number_refused : Status → ℕ
-number_refused going = 0
-number_refused offering = 1
-number_refused ended = 2
+abbrev pub status_number : Status → ℕ
+status_number going = 0
+status_number offering = 1
+status_number ended = 2
 
 -- the state that a call leaves
 abbrev pub state_of : Status → State
-state_of going = S.Going (record { number = number_refused going })
-state_of offering = S.Offering (record { number = number_refused offering })
-state_of ended = S.Ended (record { number = number_refused ended })
+state_of going = S.Going (record { number = status_number going })
+state_of offering = S.Offering (record { number = status_number offering })
+state_of ended = S.Ended (record { number = status_number ended })
 
 -- the state of the term whose first word this is
 abbrev pub status_at : ℕ → Status

@@ -1,7 +1,7 @@
 // What the calls look at first: lengths, whether the words are an image, and its state.
 ghost use Rattle.std.specs.Prelude.{◌≡◌, ◌≤◌, length, MatchOption};
 ghost use Rattle.calls.specs.Entry.{allowed_length};
-ghost use Rattle.engine.specs.States.{state_of, status_at, number_refused};
+ghost use Rattle.engine.specs.States.{state_of, status_at, status_number};
 ghost use Rattle.engine.specs.Entry.{lengths_fault, LengthsFit, ImageFault, EntryFault, SpareEntryFault};
 
 use crate::states::{Ended, Going, Offering, State};
@@ -13,7 +13,7 @@ use words::fields::kind_number;
 
 // The number of the state of the term whose first word this is.
 fn number_at(word: u32) -> u8
-    ensures { result ≡ number_refused (status_at word) }
+    ensures { result ≡ status_number (status_at word) }
 {
     if is_value_word(word) {
         2

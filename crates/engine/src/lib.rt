@@ -1,8 +1,8 @@
 // The engine: a program is admitted and opened; the run that it starts is run, shown and taken.
 pub mod answers;
-pub mod calls;
 mod entry;
 mod guard;
+pub mod methods;
 mod opening;
 mod running;
 pub mod showing;

@@ -1,9 +1,8 @@
 // Showing: the pending value of an offer, or the value of an end, as a part of the caller's words.
 ghost use Rattle.std.specs.Prelude.{◌≡◌, ◌≢◌};
 ghost use Rattle.calls.specs.States.{Status, going, offering, ended};
-ghost use Rattle.engine.specs.States.{number_refused};
-ghost use Rattle.engine.specs.Showing.{ValuePlace, Shows};
-ghost use Rattle.std.proofs.Common.{rules};
+ghost use Rattle.engine.specs.States.{status_number};
+ghost use Rattle.engine.specs.Showing.{ValuePlace, Shows, offering_rests, ended_rests};
 
 use crate::answers::Shown;
 use crate::entry::check_entry;
@@ -19,15 +18,15 @@ pub trait Showing {
 
     // The number of the state.
     fn number(&self) -> u8
-        ensures { result ≡ number_refused status };
+        ensures { result ≡ status_number status };
 
-    ghost resting: { (status ≢ going) };
+    ghost resting: { status ≢ going };
 }
 
 impl Showing for Offering {
     ghost status = { offering };
 
-    ghost resting = { Prim.search rules };
+    ghost resting = { offering_rests };
 
     fn number(&self) -> u8 {
         1
@@ -37,7 +36,7 @@ impl Showing for Offering {
 impl Showing for Ended {
     ghost status = { ended };
 
-    ghost resting = { Prim.search rules };
+    ghost resting = { ended_rests };
 
     fn number(&self) -> u8 {
         2

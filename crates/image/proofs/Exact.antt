@@ -1,7 +1,7 @@
 -- Reading gives a configuration exactly if the words are its image; so an image has one configuration, and a configuration one image.
 use Rattle.std.proofs.Common.{◌≡◌, ℕ, suc, ◌-◌, ◌%◌, ◌^◌, ◌<◌, ◌≤◌, Bool, true, false, cond, eqb, List, [], ◌∷◌, ◌++◌, length, get_or, drop, replicate, Some, None, sym, refl, ap, ◌∙◌, subst, append_assoc, arith, length-append}
 use lib.ListN.{length-replicate}
-use Rattle.std.specs.List.{AllByRecursion as All}
+use Rattle.std.specs.List.{AllByRecursion}
 use Rattle.std.proofs.lemmas.List.{drop_at}
 use Rattle.calculus.specs.Terms.{Term, unit}
 use Rattle.calculus.specs.Parts.{size}
@@ -52,7 +52,7 @@ read_ready w r n t ws rest z k f e =
     ∙ (λ j. ready (k j) (term_in_encode t f rest j) ∷ bindings_in n (behind_term t f rest j))
 
 pub bindings_in_words :
-    (n : ℕ) (μ : Bindings) → All (RightBinding n) μ → (rest : List ℕ) → bindings_in (length μ) (bindings_words μ ++ rest) ≡ μ
+    (n : ℕ) (μ : Bindings) → AllByRecursion (RightBinding n) μ → (rest : List ℕ) → bindings_in (length μ) (bindings_words μ ++ rest) ≡ μ
 bindings_in_words n [] a rest = refl
 bindings_in_words n (empty r ∷ μ) a rest =
     read_empty (word_of (binding_word (empty r))) r (length μ) (bindings_words μ ++ rest)

@@ -1,6 +1,6 @@
 -- A step keeps the fields within their bits, wherever its successor has no more bindings than labels.
 use Rattle.std.proofs.Common.{◌≡◌, ℕ, zero, suc, ◌+◌, ◌^◌, ◌<◌, ◌≤◌, Bool, true, false, cond, ◌&&◌, eqb, ltb, List, [], ◌∷◌, ◌++◌, length, Some, None, Option, sym, refl, ap, subst, arith, length-append}
-use Rattle.std.specs.List.{AllByRecursion as All}
+use Rattle.std.specs.List.{AllByRecursion}
 use Rattle.std.proofs.ByRecursion.{All-append}
 use Rattle.std.proofs.lemmas.Bool.{and_parts, and_from, lt-ltb}
 use Rattle.quantities.specs.declared.Signature.{Signature}
@@ -72,12 +72,12 @@ fits_plug (operation_left o b) t u f g = (f.0, g, f.2)
 fits_plug (operation_right o a) t u f g = (f.0, f.1, g)
 
 -- the binding of a label
-pub binding_fits : (μ : Bindings) (l : ℕ) (β : Binding) → All BindingFits μ → at μ l ≡ Some β → BindingFits β
+pub binding_fits : (μ : Bindings) (l : ℕ) (β : Binding) → AllByRecursion BindingFits μ → at μ l ≡ Some β → BindingFits β
 binding_fits [] l β a e = let z : ◌≡◌ {A = ℕ} 0 1 = cc in absurd (omega arith)
 binding_fits (α ∷ μ) zero β a e = let z : α ≡ β = cc in subst BindingFits z a.0
 binding_fits (α ∷ μ) (suc l) β a e = binding_fits μ l β a.1 e
 
-put_fits : (μ : Bindings) (l : ℕ) (γ : Binding) → All BindingFits μ → BindingFits γ → All BindingFits (put μ l γ)
+put_fits : (μ : Bindings) (l : ℕ) (γ : Binding) → AllByRecursion BindingFits μ → BindingFits γ → AllByRecursion BindingFits (put μ l γ)
 put_fits [] l γ a g = tt
 put_fits (α ∷ μ) zero γ a g = (g, a.1)
 put_fits (α ∷ μ) (suc l) γ a g = (a.0, put_fits μ l γ a.1 g)
@@ -104,13 +104,13 @@ atom_fits k p h g = and_from (ltb p (2 ^ 24)) (ltb k 8 && true) (lt-ltb p (2 ^ 2
 -- what a step makes of them
 pub record After (t : Term) (μ : Bindings) : Type 0 where
   pub term : Fits t
-  pub bindings : All BindingFits μ
+  pub bindings : AllByRecursion BindingFits μ
 
-stays : {t : Term} {μ : Bindings} → All BindingFits μ → Fits t → After t μ
+stays : {t : Term} {μ : Bindings} → AllByRecursion BindingFits μ → Fits t → After t μ
 stays a f = record { term = f; bindings = a }
 
 -- a binding is added
-adds : (μ : Bindings) (γ : Binding) (r : ℕ) → length (μ ++ γ ∷ []) ≤ most_bindings → All BindingFits μ → BindingFits γ → RowFits r →
+adds : (μ : Bindings) (γ : Binding) (r : ℕ) → length (μ ++ γ ∷ []) ≤ most_bindings → AllByRecursion BindingFits μ → BindingFits γ → RowFits r →
     After (instance (length μ) r) (μ ++ γ ∷ [])
 adds μ γ r few a g f = record {
   term = instance_fits (length μ) r (omega (arith, length-append μ (γ ∷ []))) f;
@@ -126,7 +126,7 @@ module _ {Q : Meaning} (law : Law Q) where
       let few = law.few.1 in
       atom_fits s.result (Q.result o p q) (omega (arith, t.2)) (c p q h g).1
 
-  pub fits_kept : {t t' : Term} {μ μ' : Bindings} → Step Q t μ t' μ' → length μ' ≤ most_bindings → Fits t → All BindingFits μ → After t' μ'
+  pub fits_kept : {t t' : Term} {μ μ' : Bindings} → Step Q t μ t' μ' → length μ' ≤ most_bindings → Fits t → AllByRecursion BindingFits μ → After t' μ'
   fits_kept (e_context F {t = t} {t' = t'} p s) few f a =
       let k = fits_kept s few (fits_part F t f) a in record { term = fits_plug F t t' f k.term; bindings = k.bindings }
   fits_kept (e_executing s) few f a =

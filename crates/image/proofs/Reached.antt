@@ -1,6 +1,6 @@
 -- Words that are passed over as a term and bindings are those of a term and bindings that keep the rules, and the other way round.
 use Rattle.std.proofs.Common.{◌≡◌, ℕ, zero, suc, ◌+◌, ◌*◌, ◌/◌, ◌%◌, ◌^◌, ◌<◌, Bool, true, false, cond, ◌&&◌, eqb, ltb, List, [], ◌∷◌, ◌++◌, length, Some, None, Option, sym, refl, ap, ◌∙◌, append_assoc, append-nil, arith, length-append}
-use Rattle.std.specs.List.{AllByRecursion as All}
+use Rattle.std.specs.List.{AllByRecursion}
 use Rattle.std.proofs.lemmas.Bool.{and_from, and_parts, lt-ltb, ltb-true, eq-eqb, eqb-true}
 use Rattle.calculus.specs.Terms.{Term}
 use Rattle.calculus.specs.Parts.{parts, size}
@@ -40,8 +40,8 @@ module _ (n b e : ℕ) where
   Kept t = Fits t → (p i : ℕ) (rest : List ℕ) → reach n (suc p) b i (encode t ++ rest) ≡ Some e → Formed n t
 
   kept_all :
-      (ts : List Term) → All Kept ts → All Fits ts → (p i : ℕ) (rest : List ℕ) →
-      reach n (p + length ts) b i (encodes ts ++ rest) ≡ Some e → All (Formed n) ts
+      (ts : List Term) → AllByRecursion Kept ts → AllByRecursion Fits ts → (p i : ℕ) (rest : List ℕ) →
+      reach n (p + length ts) b i (encodes ts ++ rest) ≡ Some e → AllByRecursion (Formed n) ts
   kept_all [] a f p i rest h = tt
   kept_all (t ∷ ts) a f p i rest h =
       let s : suc (p + length ts) ≡ p + suc (length ts) = omega arith in
@@ -51,7 +51,7 @@ module _ (n b e : ℕ) where
       let k = a.0 f.0 (p + length ts) i (encodes ts ++ rest) g in
       (k, kept_all ts a.1 f.1 p (i + size t) rest (sym (reach_term n b t (f.0, k) (p + length ts) i (encodes ts ++ rest)) ∙ g))
 
-  kept_step : (t : Term) → All Kept (parts t) → Kept t
+  kept_step : (t : Term) → AllByRecursion Kept (parts t) → Kept t
   kept_step t a f p i rest h =
       let w = word_of (first_word t) in
       let ws = encodes (parts t) ++ rest in
@@ -75,7 +75,7 @@ record OneTerm (n b i e : ℕ) (ws : List ℕ) : Type 0 where
   onward : reach n 0 b (i + size whole) rest ≡ Some e
 
 one_of :
-    (n b i e : ℕ) (ws : List ℕ) → reach n 1 b i ws ≡ Some e → (ts : List Term) (rest : List ℕ) → All Fits ts → length ts ≡ 1 →
+    (n b i e : ℕ) (ws : List ℕ) → reach n 1 b i ws ≡ Some e → (ts : List Term) (rest : List ℕ) → AllByRecursion Fits ts → length ts ≡ 1 →
     ws ≡ encodes ts ++ rest → OneTerm n b i e ws
 one_of n b i e ws h [] rest f c s = absurd (omega arith)
 one_of n b i e ws h (t ∷ u ∷ ts) rest f c s = absurd (omega arith)
@@ -95,7 +95,7 @@ one_term n b i e ws h =
 record SomeBindings (n b i e : ℕ) (ws : List ℕ) : Type 0 where
   whole : Bindings
   rest : List ℕ
-  right : All (RightBinding n) whole
+  right : AllByRecursion (RightBinding n) whole
   count : length whole ≡ b
   same : ws ≡ bindings_words whole ++ rest
   ends : e ≡ i + length (bindings_words whole)
@@ -170,7 +170,7 @@ pub record Reached (n b i e : ℕ) (ws : List ℕ) : Type 0 where
   pub bindings : Bindings
   pub rest : List ℕ
   pub right : Right n term
-  pub bindings_right : All (RightBinding n) bindings
+  pub bindings_right : AllByRecursion (RightBinding n) bindings
   pub count : length bindings ≡ b
   pub same : ws ≡ encode term ++ (bindings_words bindings ++ rest)
   pub ends : e ≡ i + size term + length (bindings_words bindings)
@@ -215,7 +215,7 @@ pub ready_bit : (r : ℕ) (t : Term) → word_of (binding_word (ready r t)) % 2 
 ready_bit r t = omega arith
 
 pub reach_bindings :
-    (n : ℕ) (μ : Bindings) → All (RightBinding n) μ → (i : ℕ) (rest : List ℕ) →
+    (n : ℕ) (μ : Bindings) → AllByRecursion (RightBinding n) μ → (i : ℕ) (rest : List ℕ) →
     reach n 0 (length μ) i (bindings_words μ ++ rest) ≡ Some (i + length (bindings_words μ))
 reach_bindings n [] a i rest = ap Some (omega arith)
 reach_bindings n (empty r ∷ μ) a i rest =

@@ -1,6 +1,6 @@
 -- The rules that the words of a term are tested for are the rules of the term.
 use Rattle.std.proofs.Common.{◌≡◌, ℕ, suc, ◌+◌, ◌<◌, Bool, true, false, ◌&&◌, ◌||◌, eqb, ltb, List, [], ◌∷◌, ◌++◌, length, refl, ap, ◌∙◌, append_assoc, arith}
-use Rattle.std.specs.List.{AllByRecursion as All}
+use Rattle.std.specs.List.{AllByRecursion}
 use Rattle.std.proofs.lemmas.Bool.{and_from, and_parts, lt-ltb, ltb-true}
 use Rattle.calculus.specs.Terms.{Term, unit, variable, abstraction, coroutine, application, yield, start, resume, snapshot, fix, atom, operation, instance, resumption, suspension, is_value}
 use Rattle.calculus.specs.Parts.{parts, size}
@@ -14,7 +14,7 @@ use Rattle.image.specs.Reading.{label_at, value_kind, value_after, label_below, 
 use Rattle.image.specs.Places.{Right}
 use Rattle.image.proofs.Counting.{passes}
 
-pub fits_down : (t : Term) → Fits t → All Fits (parts t)
+pub fits_down : (t : Term) → Fits t → AllByRecursion Fits (parts t)
 fits_down t f = (fits_parts t f).1
 
 -- a value is known by the kind of its first word
@@ -140,7 +140,7 @@ formed_own n (resumption l a b c d) h =
 formed_own n (suspension t v) h = h.0
 
 -- the rules go to the parts, and come from them and the own word
-pub formed_parts : (n : ℕ) (t : Term) → Formed n t → All (Formed n) (parts t)
+pub formed_parts : (n : ℕ) (t : Term) → Formed n t → AllByRecursion (Formed n) (parts t)
 formed_parts n unit h = tt
 formed_parts n (variable x) h = tt
 formed_parts n (abstraction x r b) h = (h, tt)
@@ -157,7 +157,7 @@ formed_parts n (instance l r) h = tt
 formed_parts n (resumption l a b c d) h = let k = h.2 in (k.0, (k.1, (k.2, (k.3, tt))))
 formed_parts n (suspension t v) h = (h.1, (h.2, tt))
 
-pub parts_formed : (n : ℕ) (t : Term) → own n t ≡ true → All (Formed n) (parts t) → Formed n t
+pub parts_formed : (n : ℕ) (t : Term) → own n t ≡ true → AllByRecursion (Formed n) (parts t) → Formed n t
 parts_formed n unit o a = tt
 parts_formed n (variable x) o a = tt
 parts_formed n (abstraction x r b) o a = a.0
@@ -178,11 +178,11 @@ parts_formed n (resumption l e b c d) o a =
     (ltb-true l n p.0, (q.0, r.0, r.1), (a.0, a.1.0, a.1.1.0, a.1.1.1.0))
 parts_formed n (suspension t v) o a = (o, a.0, a.1.0)
 
-both : {A : Type 0} (P Q : A → Type 0) (xs : List A) → All P xs → All Q xs → All (λ x. P x × Q x) xs
+both : {A : Type 0} (P Q : A → Type 0) (xs : List A) → AllByRecursion P xs → AllByRecursion Q xs → AllByRecursion (λ x. P x × Q x) xs
 both P Q [] a b = tt
 both P Q (x ∷ xs) a b = ((a.0, b.0), both P Q xs a.1 b.1)
 
-pub right_parts : (n : ℕ) (t : Term) → Right n t → All (Right n) (parts t)
+pub right_parts : (n : ℕ) (t : Term) → Right n t → AllByRecursion (Right n) (parts t)
 right_parts n t h = both Fits (Formed n) (parts t) (fits_parts t h.0).1 (formed_parts n t h.1)
 
 -- a term that keeps the rules is passed over

@@ -1,6 +1,6 @@
 -- Where terms and bindings stand in an image.
 use Rattle.std.proofs.Common.{◌≡◌, ℕ, zero, suc, ◌+◌, ◌-◌, ◌<◌, ◌≤◌, List, [], ◌∷◌, ◌++◌, length, take, drop, replicate, Some, sym, refl, ap, ◌∙◌, subst, append_assoc, arith, length-append}
-use Rattle.std.specs.List.{between, AllByRecursion as All}
+use Rattle.std.specs.List.{between, AllByRecursion}
 use Rattle.std.proofs.lemmas.List.{drop-drop, drop_at, take_at}
 use Rattle.calculus.specs.Lists.{at, put}
 use Rattle.calculus.specs.Terms.{Term}
@@ -65,7 +65,7 @@ shift (ready r t) n h l i ws =
     let k : i + 1 + size t ≡ i + suc (length (encode t)) = omega (arith, length_encode t) in
     ap (λ k. seek k l (i + 1) (encode t ++ ws)) (ready_bit r t) ∙ seek_term l t h.0.1 0 (i + 1) ws ∙ ap (λ j. seek 0 l j ws) k
 
-pub entry : (n : ℕ) (μ : Bindings) (l : ℕ) (β : Binding) → All (RightBinding n) μ → at μ l ≡ Some β → Entry n μ l β
+pub entry : (n : ℕ) (μ : Bindings) (l : ℕ) (β : Binding) → AllByRecursion (RightBinding n) μ → at μ l ≡ Some β → Entry n μ l β
 entry n [] l β a e = let z : ◌≡◌ {A = ℕ} 0 1 = cc in absurd (omega arith)
 entry n (α ∷ μ) zero β a e =
     let z : α ≡ β = cc in

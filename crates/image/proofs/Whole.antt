@@ -1,6 +1,6 @@
 -- An image passes the tests, and words that pass them are an image.
 use Rattle.std.proofs.Common.{◌≡◌, ℕ, zero, suc, ◌+◌, ◌-◌, ◌^◌, ◌<◌, ◌≤◌, true, false, ◌&&◌, eqb, leb, List, [], ◌∷◌, ◌++◌, length, get_or, drop, replicate, Some, None, Option, sym, refl, ap, ◌∙◌, subst, append_assoc, arith, length-append}
-use Rattle.std.specs.List.{AllByRecursion as All}
+use Rattle.std.specs.List.{AllByRecursion}
 use Rattle.std.proofs.lemmas.List.{drop_at}
 use Rattle.std.proofs.lemmas.Bool.{and_from, and_parts, eq-eqb, eqb-true, le-leb, leb-true}
 use Rattle.calculus.specs.Lists.{at}
@@ -22,27 +22,27 @@ pub encodable_term : (c : Configuration) → Encodable c → Right (length c.bin
 encodable_term c l = (l.term_fits, l.configured.term_formed)
 
 rightly :
-    (n : ℕ) (μ : Bindings) → All BindingFits μ → ((l i : ℕ) (b : Term) → at μ l ≡ Some (ready i b) → Formed n b) →
-    All (RightBinding n) μ
+    (n : ℕ) (μ : Bindings) → AllByRecursion BindingFits μ → ((l i : ℕ) (b : Term) → at μ l ≡ Some (ready i b) → Formed n b) →
+    AllByRecursion (RightBinding n) μ
 rightly n [] a f = tt
 rightly n (empty r ∷ μ) a f = ((a.0, tt), rightly n μ a.1 (λ l. f (suc l)))
 rightly n (ready r t ∷ μ) a f = ((a.0, f 0 r t refl), rightly n μ a.1 (λ l. f (suc l)))
 
-pub encodable_bindings : (c : Configuration) → Encodable c → All (RightBinding (length c.bindings)) c.bindings
+pub encodable_bindings : (c : Configuration) → Encodable c → AllByRecursion (RightBinding (length c.bindings)) c.bindings
 encodable_bindings c l = rightly (length c.bindings) c.bindings l.bindings_fit l.configured.bodies_formed
 
-all_fit : (n : ℕ) (μ : Bindings) → All (RightBinding n) μ → All BindingFits μ
+all_fit : (n : ℕ) (μ : Bindings) → AllByRecursion (RightBinding n) μ → AllByRecursion BindingFits μ
 all_fit n [] a = tt
 all_fit n (β ∷ μ) a = (a.0.0, all_fit n μ a.1)
 
 body_formed :
-    (n : ℕ) (μ : Bindings) → All (RightBinding n) μ → (l i : ℕ) (b : Term) → at μ l ≡ Some (ready i b) → Formed n b
+    (n : ℕ) (μ : Bindings) → AllByRecursion (RightBinding n) μ → (l i : ℕ) (b : Term) → at μ l ≡ Some (ready i b) → Formed n b
 body_formed n [] a l i b e = let z : ◌≡◌ {A = ℕ} 0 1 = cc in absurd (omega arith)
 body_formed n (β ∷ μ) a zero i b e = let z : β ≡ ready i b = cc in subst (BodyFormed n) z a.0.1
 body_formed n (β ∷ μ) a (suc l) i b e = body_formed n μ a.1 l i b e
 
 pub encodable_from :
-    (c : Configuration) → Right (length c.bindings) c.term → All (RightBinding (length c.bindings)) c.bindings → Encodable c
+    (c : Configuration) → Right (length c.bindings) c.term → AllByRecursion (RightBinding (length c.bindings)) c.bindings → Encodable c
 encodable_from c t a =
     record {
       configured = record { term_formed = t.1; bodies_formed = body_formed (length c.bindings) c.bindings a };
@@ -191,7 +191,7 @@ whole w vs n e low high k hn he hz r =
       c,
       record {
         encodable =
-            encodable_from c (subst (λ j. Right j t) (sym b) r.right) (subst (λ j. All (RightBinding j) μ) (sym b) r.bindings_right);
+            encodable_from c (subst (λ j. Right j t) (sym b) r.right) (subst (λ j. AllByRecursion (RightBinding j) μ) (sym b) r.bindings_right);
         fits = record { low = low; high = high; few = omega arith; room = omega (arith, len) };
         is = λ i. hd i ∷ filled i;
       },

@@ -1,6 +1,6 @@
 -- Images: the words of a configuration. Word 0 is the head, then come the term and the bindings from 0 up, and zeros to the end.
 use Rattle.std.specs.Prelude.{◌≡◌, ℕ, suc, ◌-◌, ◌≤◌, true, false, List, [], ◌∷◌, ◌++◌, length, replicate}
-use Rattle.std.specs.List.{AllByRecursion as All}
+use Rattle.std.specs.List.{AllByRecursion}
 use Rattle.calculus.specs.Configurations.{Binding, empty, ready, Bindings, Configuration, Configured}
 use Rattle.layout.specs.declared.Word.{Word}
 use Rattle.layout.specs.declared.Word.TheVariants as W
@@ -58,7 +58,7 @@ most_words = 16384
 pub record Encodable (c : Configuration) : Type 0 where
   pub configured : Configured c.term c.bindings
   pub term_fits : Fits c.term
-  pub bindings_fit : All BindingFits c.bindings
+  pub bindings_fit : AllByRecursion BindingFits c.bindings
 
 -- A configuration fits a length, from 2 to 16,384 words, when it has at most 4,095 bindings and needs no more words.
 pub record FitsLength (len : ℕ) (c : Configuration) : Type 0 where

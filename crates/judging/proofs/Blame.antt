@@ -1,6 +1,6 @@
 -- Where a refusal comes from: the term inside that its own rule refuses.
 use Rattle.std.proofs.Common.{◌≡◌, ℕ, ◌+◌, ◌<◌, ◌≤◌, List, [], ◌∷◌, ◌++◌, Ok, Err, sym, refl, ap, ◌∙◌, subst, ⊎_elim, arith}
-use Rattle.std.specs.List.{AllByRecursion as All}
+use Rattle.std.specs.List.{AllByRecursion}
 use Rattle.faults.specs.declared.Fault.{Fault}
 use Rattle.rules.specs.declared.model.Judged.{Judged}
 use Rattle.rules.specs.declared.model.Variable.{Variable}
@@ -33,13 +33,13 @@ module _ (S : Setting) (rows : List ℕ) where
   Among t =
       (Γ : List Variable) (i : ℕ) (f : Fault) → verdict S.set rows Γ i t ≡ Err f → (i ≤ f.place) × (f.place < i + size t)
 
-  among_step : (t : Term) → All Among (parts t) → Among t
+  among_step : (t : Term) → AllByRecursion Among (parts t) → Among t
   among_step t a Γ i f h =
       let n = size_is t in
       ⊎_elim
       (λ x.
       let r =
-      all_at Among x.before x.term x.later (subst (All Among) x.split a) (inner_scope rows t Γ) (i + 1 + sizes x.before) f
+      all_at Among x.before x.term x.later (subst (AllByRecursion Among) x.split a) (inner_scope rows t Γ) (i + 1 + sizes x.before) f
       x.refusal
       in
       let q = reach x.before x.term x.later in
@@ -99,13 +99,13 @@ module _ (S : Setting) (L : WellFormed S) (rows : List ℕ) (means : Means rows 
       Program t → (Γ : List Variable) → InScope S (scope_of Γ) → (i : ℕ) (f : Fault) → verdict S.set rows Γ i t ≡ Err f →
       Source S rows Γ i t f
 
-  sourced_step : (t : Term) → All Sourced (parts t) → Sourced t
+  sourced_step : (t : Term) → AllByRecursion Sourced (parts t) → Sourced t
   sourced_step t a p Γ g i f h =
       ⊎_elim
       (λ x.
       let r =
-      all_at Sourced x.before x.term x.later (subst (All Sourced) x.split a)
-      (all_at Program x.before x.term x.later (subst (All Program) x.split (program_parts t p))) (inner_scope rows t Γ)
+      all_at Sourced x.before x.term x.later (subst (AllByRecursion Sourced) x.split a)
+      (all_at Program x.before x.term x.later (subst (AllByRecursion Program) x.split (program_parts t p))) (inner_scope rows t Γ)
       (parts_in_scope t Γ g) (i + 1 + sizes x.before) f x.refusal
       in
       record {
@@ -154,10 +154,10 @@ module _ (S : Setting) (L : WellFormed S) (rows : List ℕ) (means : Means rows 
       low f h =
           ⊎_elim
           (λ x.
-          let q = all_at Program x.before x.term x.later (subst (All Program) x.split (program_parts t p)) in
+          let q = all_at Program x.before x.term x.later (subst (AllByRecursion Program) x.split (program_parts t p)) in
           let d =
           all_at (HasType S (inner S t (scope_of Γ))) x.before x.term x.later
-          (subst (All (HasType S (inner S t (scope_of Γ)))) x.split w.parts_have)
+          (subst (AllByRecursion (HasType S (inner S t (scope_of Γ)))) x.split w.parts_have)
           in
           absurd
           (no_typing S L rows means x.term q (inner_scope rows t Γ) (parts_in_scope t Γ g) (i + 1 + sizes x.before) f x.refusal
@@ -174,7 +174,7 @@ module _ (S : Setting) (L : WellFormed S) (rows : List ℕ) (means : Means rows 
   smallest (here {i = i} {t = t}) P Γ e g w = refused_here t P Γ g i (subst (λ (Θ : Scope). Untyped S Θ t) e w)
   smallest (part {i = i} {t = t} before q later s d) P Γ e g w =
       let r =
-      smallest d (all_at Program before q later (subst (All Program) s (program_parts t P))) (inner_scope rows t Γ)
+      smallest d (all_at Program before q later (subst (AllByRecursion Program) s (program_parts t P))) (inner_scope rows t Γ)
       (ap (inner S t) e ∙ sym (inner_same S rows means t Γ)) (parts_in_scope t Γ g) w
       in
       let o = first_counts S rows (inner_scope rows t Γ) before q later (i + 1) (ruled_by S.set rows Γ i t) r.0 r.1 in

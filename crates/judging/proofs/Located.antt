@@ -1,6 +1,6 @@
 -- A refusal's place and number, by types.
 use Rattle.std.proofs.Common.{◌≡◌, ℕ, ◌+◌, List, [], ◌∷◌, Err, sym, refl, ap, ◌∙◌, subst, arith}
-use Rattle.std.specs.List.{AllByRecursion as All}
+use Rattle.std.specs.List.{AllByRecursion}
 use Rattle.faults.specs.declared.Fault.{Fault}
 use Rattle.rules.specs.declared.model.Judged.{Judged}
 use Rattle.rules.specs.declared.model.Variable.{Variable}
@@ -22,7 +22,7 @@ use Rattle.judging.proofs.Quiet.{types_of, all_in_scope, without_yields}
 use Rattle.judging.proofs.Blame.{Source, sourced, smallest}
 
 -- terms of known types have types
-all_typed : (S : Setting) (Γ : Scope) (ts : List Term) (Ts : List ℕ) → HaveTypes S Γ ts Ts → All (HasType S Γ) ts
+all_typed : (S : Setting) (Γ : Scope) (ts : List Term) (Ts : List ℕ) → HaveTypes S Γ ts Ts → AllByRecursion (HasType S Γ) ts
 all_typed S Γ [] [] h = tt
 all_typed S Γ [] (T ∷ Ts) h = absurd h
 all_typed S Γ (t ∷ ts) [] h = absurd h
@@ -30,7 +30,7 @@ all_typed S Γ (t ∷ ts) (T ∷ Ts) h = ((T, h.0.0, h.0.1), all_typed S Γ ts T
 
 module _ (S : Setting) (L : WellFormed S) (rows : List ℕ) (means : Means rows S.table) where
   have_types :
-      (Γ : List Variable) → InScope S (scope_of Γ) → (ts : List Term) → All Program ts → (i : ℕ) (js : List Judged) →
+      (Γ : List Variable) → InScope S (scope_of Γ) → (ts : List Term) → AllByRecursion Program ts → (i : ℕ) (js : List Judged) →
       HaveJudgements S.set rows Γ i ts js → HaveTypes S (scope_of Γ) ts (types_of js)
   have_types Γ g [] p i [] h = tt
   have_types Γ g [] p i (j ∷ js) h = absurd h

@@ -1,6 +1,6 @@
 -- A verdict by the verdicts on the parts and the rule of the kind.
 use Rattle.std.proofs.Common.{◌≡◌, ℕ, suc, ◌+◌, ◌⊎◌, List, [], ◌∷◌, ◌++◌, get_or, Ok, Err, refl, ap, ◌∙◌, inl, inr, ⊎_elim, arith}
-use Rattle.std.specs.List.{AllByRecursion as All}
+use Rattle.std.specs.List.{AllByRecursion}
 use Rattle.faults.specs.declared.Fault.{Fault}
 use Rattle.faults.specs.declared.numbers.FaultNumber.TheVariants.{Types}
 use Rattle.quantities.specs.Meaning.{Meaning}
@@ -129,7 +129,7 @@ module _ (m : Meaning) (rows : List ℕ) where
           (r j h)
 
 -- what holds of a term where it holds of its parts holds of every term
-pub by_parts : (P : Term → Type 0) → ((t : Term) → All P (parts t) → P t) → (t : Term) → P t
+pub by_parts : (P : Term → Type 0) → ((t : Term) → AllByRecursion P (parts t) → P t) → (t : Term) → P t
 by_parts P h unit = h unit tt
 by_parts P h (variable x) = h (variable x) tt
 by_parts P h (abstraction x r b) = h (abstraction x r b) (by_parts P h b, tt)
@@ -146,7 +146,7 @@ by_parts P h (instance l r) = h (instance l r) tt
 by_parts P h (resumption l a b c d) = h (resumption l a b c d) (by_parts P h a, (by_parts P h b, (by_parts P h c, (by_parts P h d, tt))))
 by_parts P h (suspension a b) = h (suspension a b) (by_parts P h a, (by_parts P h b, tt))
 
-pub all_at : (P : Term → Type 0) (before : List Term) (q : Term) (later : List Term) → All P (before ++ (q ∷ later)) → P q
+pub all_at : (P : Term → Type 0) (before : List Term) (q : Term) (later : List Term) → AllByRecursion P (before ++ (q ∷ later)) → P q
 all_at P [] q later a = a.0
 all_at P (t ∷ before) q later a = all_at P before q later a.1
 
@@ -167,7 +167,7 @@ size_is (instance l r) = refl
 size_is (resumption l a b c d) = omega arith
 size_is (suspension a b) = omega arith
 
-pub program_parts : (t : Term) → Program t → All Program (parts t)
+pub program_parts : (t : Term) → Program t → AllByRecursion Program (parts t)
 program_parts unit p = tt
 program_parts (variable x) p = tt
 program_parts (abstraction x r b) p = (p, tt)

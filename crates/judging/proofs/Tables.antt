@@ -7,7 +7,7 @@ use Rattle.rules.specs.declared.model.Shape.TheVariants.{UnitRow, BottomRow, Bas
 use Rattle.rules.specs.Table.{shape_of, shape_at}
 use Rattle.calculus.specs.Lists.{at}
 use Rattle.calculus.specs.Rows.{Row, unit_type, bottom_type, base_type, function_type, coroutine_type, instance_type}
-use Rattle.std.specs.List.{AllByRecursion as All}
+use Rattle.std.specs.List.{AllByRecursion}
 use Rattle.programs.specs.Tables.{row_word, table_words, RowFits}
 
 abbrev pub row_of : Shape → Option Row
@@ -72,7 +72,7 @@ as_long : (table : List Row) → length (table_words table) ≡ length table
 as_long [] = refl
 as_long (ty ∷ table) = ap suc (as_long table)
 
-within : (table : List Row) → All RowFits table → (r : ℕ) → r < length table → row_of (shape_of (get_or (table_words table) r 0)) ≡ at table r
+within : (table : List Row) → AllByRecursion RowFits table → (r : ℕ) → r < length table → row_of (shape_of (get_or (table_words table) r 0)) ≡ at table r
 within [] a r h = absurd (omega arith)
 within (ty ∷ table) a zero h = again ty a.0
 within (ty ∷ table) a (suc r) h = within table a.1 r (omega arith)
@@ -82,7 +82,7 @@ past [] r h = refl
 past (ty ∷ table) zero h = absurd (omega arith)
 past (ty ∷ table) (suc r) h = past table r (omega arith)
 
-pub written : (table : List Row) → All RowFits table → Means (table_words table) table
+pub written : (table : List Row) → AllByRecursion RowFits table → Means (table_words table) table
 written table a r =
     let n = as_long table in
     ⊎_elim

@@ -1,6 +1,6 @@
 -- Where a fault is and why, said by types alone.
 use Rattle.std.specs.Prelude.{◌≡◌, ℕ, suc, ◌+◌, ◌<◌, ◌≤◌, true, ◌↔◌, List, [], ◌∷◌, ◌++◌, Some, None, Option, ◌≢◌}
-use Rattle.std.specs.List.{AllByRecursion as All}
+use Rattle.std.specs.List.{AllByRecursion}
 use Rattle.faults.specs.declared.Fault.{Fault}
 use Rattle.faults.specs.declared.numbers.FaultNumber.{FaultNumber}
 use Rattle.faults.specs.declared.numbers.FaultNumber.TheVariants.{Scope as OfScope, Quantity, Types, YieldType}
@@ -50,7 +50,7 @@ pub data Inside (S : Setting) : Scope → ℕ → Term → Scope → ℕ → Ter
 -- a term without a type, though all its parts have one
 pub record Untyped (S : Setting) (Γ : Scope) (t : Term) : Type 0 where
   pub lacks : HasType S Γ t → ⊥
-  pub parts_have : All (λ q. HasType S (inner S t Γ) q) (parts t)
+  pub parts_have : AllByRecursion (λ q. HasType S (inner S t Γ) q) (parts t)
 
 -- a variable that is not in scope
 pub data OutOfScope (Γ : Scope) : Term → Type 0 where

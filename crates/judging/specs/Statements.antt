@@ -7,7 +7,7 @@ use Rattle.calculus.specs.Terms.{Term, Program}
 use Rattle.calculus.specs.Rows.{Setting, WellFormed}
 use Rattle.calculus.specs.Typing.{Typed}
 use Rattle.calculus.specs.Judgement.{judge}
-use Rattle.std.specs.List.{AllByRecursion as All}
+use Rattle.std.specs.List.{AllByRecursion}
 use Rattle.programs.specs.Tables.{table_words, RowFits}
 use Rattle.judging.specs.Verdicts.{verdict}
 use Rattle.judging.specs.Answers.{scope_of, answer_of, Least}
@@ -16,18 +16,18 @@ use Rattle.judging.specs.Places.{Located}
 -- The verdict accepts a program term exactly when the judgement answers, with the same type and yield type.
 abbrev pub VerdictsAreJudgements : Type 0
 VerdictsAreJudgements =
-    (S : Setting) → All RowFits S.table → (Γ : List Variable) (i : ℕ) (t : Term) → Program t →
+    (S : Setting) → AllByRecursion RowFits S.table → (Γ : List Variable) (i : ℕ) (t : Term) → Program t →
     answer_of (verdict S.set (table_words S.table) Γ i t) ≡ judge S [] (scope_of Γ) t
 
 -- A program is accepted with T and Y exactly when T is its type and Y its least yield type, and refused exactly when it has no type.
 abbrev pub VerdictsAreTypings : Type 0
 VerdictsAreTypings =
-    (S : Setting) → WellFormed S → All RowFits S.table → (i : ℕ) (t : Term) → Program t →
+    (S : Setting) → WellFormed S → AllByRecursion RowFits S.table → (i : ℕ) (t : Term) → Program t →
     ((T Y : ℕ) → (verdict S.set (table_words S.table) [] i t ≡ accepted T Y) ↔ Least S t T Y) ×
     (((f : Fault) × (verdict S.set (table_words S.table) [] i t ≡ Err f)) ↔ ((T Y : ℕ) → Typed S [] [] t T Y → ⊥))
 
 -- A refusal's place is the smallest of a term without a type whose parts all have one, and its number says why that term has none.
 abbrev pub RefusalsAreLocated : Type 0
 RefusalsAreLocated =
-    (S : Setting) → WellFormed S → All RowFits S.table → (i : ℕ) (t : Term) → Program t → (f : Fault) →
+    (S : Setting) → WellFormed S → AllByRecursion RowFits S.table → (i : ℕ) (t : Term) → Program t → (f : Fault) →
     verdict S.set (table_words S.table) [] i t ≡ Err f → Located S i t f

@@ -1,6 +1,6 @@
 -- A machine that counts the terms to come passes over a term's words.
 use Rattle.std.proofs.Common.{◌≡◌, ℕ, suc, ◌+◌, List, [], ◌∷◌, ◌++◌, length, ap, ◌∙◌, append_assoc, arith}
-use Rattle.std.specs.List.{AllByRecursion as All}
+use Rattle.std.specs.List.{AllByRecursion}
 use Rattle.calculus.specs.Terms.{Term}
 use Rattle.calculus.specs.Parts.{parts, size, sizes}
 use Rattle.layout.specs.Layout.{word_of}
@@ -16,7 +16,7 @@ module _ {A : Type 0} (F : ℕ → ℕ → List ℕ → A)
   Passes t = Fits t → (n i : ℕ) (rest : List ℕ) → F (suc n) i (encode t ++ rest) ≡ F n (i + size t) rest
 
   row_passes :
-      (ts : List Term) → All Passes ts → All Fits ts → (n i : ℕ) (rest : List ℕ) →
+      (ts : List Term) → AllByRecursion Passes ts → AllByRecursion Fits ts → (n i : ℕ) (rest : List ℕ) →
       F (n + length ts) i (encodes ts ++ rest) ≡ F n (i + sizes ts) rest
   row_passes [] a f n i rest = ap (λ m. F m i rest) (omega arith) ∙ ap (λ m. F n m rest) (omega arith)
   row_passes (t ∷ ts) a f n i rest =
@@ -25,7 +25,7 @@ module _ {A : Type 0} (F : ℕ → ℕ → List ℕ → A)
       rw (append_assoc, s)
       (a.0 f.0 (n + length ts) i (encodes ts ++ rest) ∙ row_passes ts a.1 f.1 n (i + size t) rest ∙ ap (λ m. F n m rest) l)
 
-  passes_step : (t : Term) → All Passes (parts t) → Passes t
+  passes_step : (t : Term) → AllByRecursion Passes (parts t) → Passes t
   passes_step t a f n i rest =
       let l : i + 1 + sizes (parts t) ≡ i + size t = omega (arith, size_is t) in
       rw (encode_is t) (step t f n i rest ∙ row_passes (parts t) a (fits_parts t f).1 n (i + 1) rest ∙ ap (λ m. F n m rest) l)
@@ -33,11 +33,11 @@ module _ {A : Type 0} (F : ℕ → ℕ → List ℕ → A)
   pub passes : (t : Term) → Fits t → (n i : ℕ) (rest : List ℕ) → F (suc n) i (encode t ++ rest) ≡ F n (i + size t) rest
   passes t = by_parts Passes passes_step t
 
-  every_passes : (ts : List Term) → All Passes ts
+  every_passes : (ts : List Term) → AllByRecursion Passes ts
   every_passes [] = tt
   every_passes (t ∷ ts) = (passes t, every_passes ts)
 
   pub passes_all :
-      (ts : List Term) → All Fits ts → (n i : ℕ) (rest : List ℕ) →
+      (ts : List Term) → AllByRecursion Fits ts → (n i : ℕ) (rest : List ℕ) →
       F (n + length ts) i (encodes ts ++ rest) ≡ F n (i + sizes ts) rest
   passes_all ts = row_passes ts (every_passes ts)

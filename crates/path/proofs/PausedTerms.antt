@@ -1,6 +1,6 @@
 -- The search for a suspension, over the words of terms.
 use Rattle.std.proofs.Common.{◌≡◌, ℕ, suc, ◌+◌, true, false, cond, eqb, List, [], ◌∷◌, ◌++◌, length, Some, None, sym, ap, ◌∙◌, append_assoc, arith}
-use Rattle.std.specs.List.{AllByRecursion as All}
+use Rattle.std.specs.List.{AllByRecursion}
 use Rattle.calculus.specs.Terms.{Term, is_value, is_suspension, Value}
 use Rattle.calculus.specs.Parts.{parts, size, sizes}
 use Rattle.layout.specs.Layout.{word_of}
@@ -63,7 +63,7 @@ module _ (t : Term) (f : Fits t) (e i : ℕ) (rest : List ℕ) where
 
 -- values one after another
 pub pause_values :
-    (vs : List Term) → All Fits vs → All Value vs → (e i : ℕ) (rest : List ℕ) →
+    (vs : List Term) → AllByRecursion Fits vs → AllByRecursion Value vs → (e i : ℕ) (rest : List ℕ) →
     pause_at i (length vs + e) 0 (encodes vs ++ rest) ≡ pause_at (i + sizes vs) e 0 rest
 pause_values [] f v e i rest = (λ j. pause_at (a j) (b j) 0 rest)
   where
@@ -81,7 +81,7 @@ pause_values (t ∷ ts) f v e i rest =
 
 -- all terms that are looked at are values
 pub pause_never :
-    (vs : List Term) → All Fits vs → All Value vs → (i k : ℕ) (rest : List ℕ) → k ≡ length vs →
+    (vs : List Term) → AllByRecursion Fits vs → AllByRecursion Value vs → (i k : ℕ) (rest : List ℕ) → k ≡ length vs →
     pause_at i k 0 (encodes vs ++ rest) ≡ None
 pause_never vs f v i k rest e =
     let z : k ≡ length vs + 0 = omega arith in

@@ -1,6 +1,6 @@
 -- The walk over the words of a term ends at the last term of its path.
 use Rattle.std.proofs.Common.{◌≡◌, ℕ, zero, suc, ◌+◌, ◌≤◌, Bool, true, false, cond, List, [], ◌∷◌, ◌++◌, length, drop, sym, refl, ap, ◌∙◌, append_assoc, arith}
-use Rattle.std.specs.List.{AllByRecursion as All}
+use Rattle.std.specs.List.{AllByRecursion}
 use Rattle.calculus.specs.Terms.{Term, unit, variable, abstraction, coroutine, application, yield, start, resume, snapshot, fix, atom, operation, instance, resumption, suspension, is_value, is_suspension}
 use Rattle.calculus.specs.Parts.{parts, size, sizes}
 use Rattle.calculus.specs.Occurrences.{Position, word_at}
@@ -109,7 +109,7 @@ Walks t =
     walk i last (suc e) 0 (encode t ++ rest) ≡ entered last t (last_at i t) (walk (i + size t) last e 0 rest)
 
 walks_all :
-    (ts : List Term) → All Walks ts → All Fits ts → (i last e : ℕ) (rest : List ℕ) → e ≤ length ts →
+    (ts : List Term) → AllByRecursion Walks ts → AllByRecursion Fits ts → (i last e : ℕ) (rest : List ℕ) → e ≤ length ts →
     walk i last e 0 (encodes ts ++ rest) ≡ through last i e ts
 walks_all ts a f i last zero rest h = none_left i last (encodes ts ++ rest)
 walks_all [] a f i last (suc e) rest h = absurd (omega arith)
@@ -128,7 +128,7 @@ value_skipped t f i last e rest =
     ∙ passes_all (λ n j ws. walk j last e n ws) (skips last e) (parts t) (fits_parts t f).1 0 (i + 1) rest
     ∙ ap (λ m. walk m last e 0 rest) l
 
-walks_step : (t : Term) → All Walks (parts t) → Walks t
+walks_step : (t : Term) → AllByRecursion Walks (parts t) → Walks t
 walks_step t a f i last e rest =
     let b = fits_parts t f in
     let inside : walk (i + 1) i (evaluated t) 0 (encodes (parts t) ++ rest) ≡ last_at i t =

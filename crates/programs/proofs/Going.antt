@@ -1,6 +1,6 @@
 -- Words that go on as a program's term: each keeps its rule, at a depth of 1 to 256. They are the words that begin a term.
 use Rattle.std.proofs.Common.{◌≡◌, ℕ, zero, suc, ◌+◌, ◌≤◌, true, cond, List, [], ◌∷◌, ◌++◌, length, take, replicate, Some, None, Option, sym, refl, ap, ◌∙◌, subst, append-nil, arith, length-append}
-use Rattle.std.specs.List.{AllByRecursion as All}
+use Rattle.std.specs.List.{AllByRecursion}
 use Rattle.std.proofs.lemmas.List.{take_at, take_all, length-replicate}
 use Rattle.std.proofs.ByRecursion.{All-append, All-take}
 use Rattle.calculus.specs.Terms.{Term}
@@ -19,7 +19,7 @@ use Rattle.programs.proofs.Opened.{after, levels, due, due_then, due_opened, lev
 
 -- each word keeps its rule
 abbrev pub Keeps : List ℕ → List ℕ → Type 0
-Keeps rows ws = All (λ w. word_rule rows w ≡ true) ws
+Keeps rows ws = AllByRecursion (λ w. word_rule rows w ≡ true) ws
 
 -- from these open terms on, each word keeps its rule at a depth of 1 to 256
 abbrev pub Going : List ℕ → List ℕ → List ℕ → Type 0
@@ -38,12 +38,12 @@ pub going_rules : (rows ns ws : List ℕ) → Going rows ns ws → Keeps rows ws
 going_rules rows ns [] g = tt
 going_rules rows ns (w ∷ ws) g = (g.0, going_rules rows (opened (arity_of w) ns) ws g.3)
 
-pub going_levels : (rows ns ws : List ℕ) → Going rows ns ws → All (λ d. d ≤ 256) (levels ns ws)
+pub going_levels : (rows ns ws : List ℕ) → Going rows ns ws → AllByRecursion (λ d. d ≤ 256) (levels ns ws)
 going_levels rows ns [] g = tt
 going_levels rows ns (w ∷ ws) g = (g.2, going_levels rows (opened (arity_of w) ns) ws g.3)
 
 going_from :
-    (rows ns ws : List ℕ) → Keeps rows ws → All (λ d. 1 ≤ d) (levels ns ws) → All (λ d. d ≤ 256) (levels ns ws) →
+    (rows ns ws : List ℕ) → Keeps rows ws → AllByRecursion (λ d. 1 ≤ d) (levels ns ws) → AllByRecursion (λ d. d ≤ 256) (levels ns ws) →
     Going rows ns ws
 going_from rows ns [] r p d = tt
 going_from rows ns (w ∷ ws) r p d = (r.0, p.0, d.0, going_from rows (opened (arity_of w) ns) ws r.1 p.1 d.1)
@@ -138,11 +138,11 @@ going_begins rows ws g =
       subst (Keeps rows) (sym s.2)
           (All-append (λ w. word_rule rows w ≡ true) ws units (going_rules rows (1 ∷ []) ws g) (units_keep rows n)),
       s.2,
-      subst (All (λ d. d ≤ 256)) (sym d) (going_levels rows (1 ∷ []) ws g),
+      subst (AllByRecursion (λ d. d ≤ 256)) (sym d) (going_levels rows (1 ∷ []) ws g),
     )
 
-front : (P : ℕ → Type 0) (ws rest : List ℕ) → All P (ws ++ rest) → All P ws
-front P ws rest a = subst (All P) (take_at ws rest (length ws) refl) (All-take P (length ws) (ws ++ rest) a)
+front : (P : ℕ → Type 0) (ws rest : List ℕ) → AllByRecursion P (ws ++ rest) → AllByRecursion P ws
+front P ws rest a = subst (AllByRecursion P) (take_at ws rest (length ws) refl) (All-take P (length ws) (ws ++ rest) a)
 
 pub begins_going : (rows ws : List ℕ) → Begins rows ws → Going rows (1 ∷ []) ws
 begins_going rows ws b =
@@ -151,8 +151,8 @@ begins_going rows ws b =
     let d = first_depths t ws b.1 b.2 e in
     going_from rows (1 ∷ []) ws
     (front (λ w. word_rule rows w ≡ true) ws b.1 (subst (Keeps rows) e b.3))
-    (subst (All (λ d. 1 ≤ d)) d (All-take (λ d. 1 ≤ d) (length ws) (depths t) (depths_positive t)))
-    (subst (All (λ d. d ≤ 256)) d b.5)
+    (subst (AllByRecursion (λ d. 1 ≤ d)) d (All-take (λ d. 1 ≤ d) (length ws) (depths t) (depths_positive t)))
+    (subst (AllByRecursion (λ d. d ≤ 256)) d b.5)
 
 -- they are the words of a whole term exactly if they leave none open
 pub going_whole : (rows ws : List ℕ) → Going rows (1 ∷ []) ws → after (1 ∷ []) ws ≡ [] → Whole rows ws
@@ -167,7 +167,7 @@ going_whole rows ws g n =
       s.1,
       subst (Keeps rows) (sym s.2) (going_rules rows (1 ∷ []) ws g),
       s.2,
-      subst (All (λ d. d ≤ 256)) d (going_levels rows (1 ∷ []) ws g),
+      subst (AllByRecursion (λ d. d ≤ 256)) d (going_levels rows (1 ∷ []) ws g),
     )
 
 pub whole_going : (rows ws : List ℕ) → Whole rows ws → Going rows (1 ∷ []) ws × (after (1 ∷ []) ws ≡ [])
@@ -175,6 +175,6 @@ whole_going rows ws h =
     let t = h.0 in
     let d = sym (depths_are t h.1) ∙ ap (levels (1 ∷ [])) h.3 in (
       going_from rows (1 ∷ []) ws (subst (Keeps rows) h.3 h.2)
-          (subst (All (λ d. 1 ≤ d)) d (depths_positive t)) (subst (All (λ d. d ≤ 256)) d h.4),
+          (subst (AllByRecursion (λ d. 1 ≤ d)) d (depths_positive t)) (subst (AllByRecursion (λ d. d ≤ 256)) d h.4),
       ap (after (1 ∷ [])) (sym h.3) ∙ ap (after (1 ∷ [])) (sym (append-nil (encode t))) ∙ after_encode t h.1 1 [] [],
     )

@@ -1,6 +1,6 @@
 -- The terms that are open: what words leave open, at which depths they stand, and how many terms are still due.
 use Rattle.std.proofs.Common.{◌≡◌, ℕ, zero, suc, ◌+◌, ◌-◌, ◌≤◌, Bool, true, false, cond, eqb, leb, List, [], ◌∷◌, ◌++◌, length, sym, refl, ap, ◌∙◌, append_assoc, arith}
-use Rattle.std.specs.List.{AllByRecursion as All}
+use Rattle.std.specs.List.{AllByRecursion}
 use Rattle.std.proofs.lemmas.Bool.{ne_eqb, lt-leb, leb-true, leb-false, eqb-true, eqb-false}
 use Rattle.std.proofs.ByRecursion.{All-append}
 use Rattle.calculus.specs.Terms.{Term}
@@ -78,7 +78,7 @@ record LevelAll (ts : List Term) (ns rest : List ℕ) : Type 0 where
       levels (opened (length ts) ns) (encodes ts ++ rest) ≡ all_depths_from (suc (length ns)) ts ++ levels (closed ns) rest
   after_is : after (opened (length ts) ns) (encodes ts ++ rest) ≡ after (closed ns) rest
 
-levelled_all : (ts : List Term) → All Levelled ts → All Fits ts → (ns rest : List ℕ) → LevelAll ts ns rest
+levelled_all : (ts : List Term) → AllByRecursion Levelled ts → AllByRecursion Fits ts → (ns rest : List ℕ) → LevelAll ts ns rest
 levelled_all [] a f ns rest = record { levels_are = refl; after_is = refl }
 levelled_all (t ∷ ts) a f ns rest =
     let m = length ts in
@@ -98,7 +98,7 @@ levelled_all (t ∷ ts) a f ns rest =
           ∙ ap (λ q. after q (encodes ts ++ rest)) l ∙ k.after_is;
     }
 
-levelled_step : (t : Term) → All Levelled (parts t) → Levelled t
+levelled_step : (t : Term) → AllByRecursion Levelled (parts t) → Levelled t
 levelled_step t a f n ns rest =
     let b = fits_parts t f in
     let h = first_of t b.0 in
@@ -124,18 +124,18 @@ after_encode t f n ns rest = (by_parts Levelled levelled_step t f n ns rest).aft
 
 -- no word of a term is less deep than its first
 Below : Term → Type 0
-Below t = (d : ℕ) → 1 ≤ d → All (λ e. 1 ≤ e) (depths_from d t)
+Below t = (d : ℕ) → 1 ≤ d → AllByRecursion (λ e. 1 ≤ e) (depths_from d t)
 
-below_all : (ts : List Term) → All Below ts → (d : ℕ) → 1 ≤ d → All (λ e. 1 ≤ e) (all_depths_from d ts)
+below_all : (ts : List Term) → AllByRecursion Below ts → (d : ℕ) → 1 ≤ d → AllByRecursion (λ e. 1 ≤ e) (all_depths_from d ts)
 unfolding Below
 below_all [] a d h = tt
 below_all (t ∷ ts) a d h =
     All-append (λ e. 1 ≤ e) (depths_from d t) (all_depths_from d ts) (a.0 d h) (below_all ts a.1 d h)
 
-below_step : (t : Term) → All Below (parts t) → Below t
+below_step : (t : Term) → AllByRecursion Below (parts t) → Below t
 unfolding Below
 below_step t a d h = rw (depths_is d t) (h, below_all (parts t) a (suc d) (omega arith))
 
-pub depths_positive : (t : Term) → All (λ e. 1 ≤ e) (depths_from 1 t)
+pub depths_positive : (t : Term) → AllByRecursion (λ e. 1 ≤ e) (depths_from 1 t)
 unfolding Below
 depths_positive t = by_parts Below below_step t 1 (omega arith)

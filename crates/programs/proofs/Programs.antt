@@ -1,6 +1,6 @@
 -- Words are accepted exactly when they are those of a program, of one only, and what is refused is refused for its reason.
 use Rattle.std.proofs.Common.{◌≡◌, ℕ, suc, ◌+◌, ◌≤◌, true, ◌⊎◌, List, [], ◌∷◌, ◌++◌, length, Some, None, Ok, Err, Option, Result, sym, refl, ap, ◌∙◌, subst, inl, inr, append-nil, arith}
-use Rattle.std.specs.List.{AllByRecursion as All}
+use Rattle.std.specs.List.{AllByRecursion}
 use Rattle.faults.specs.declared.Fault.{Fault}
 use Rattle.faults.specs.declared.numbers.FaultNumber.{FaultNumber}
 use Rattle.faults.specs.Faults.{fault_of}
@@ -28,11 +28,11 @@ use Rattle.programs.proofs.TablesRead.{TableOf, length_table_words, formed_good,
 use Rattle.programs.proofs.Heads.{split_headed, head_reads, headed_split}
 
 -- none of some numbers is over 256 exactly if the greatest is not
-all_under : (ns : List ℕ) → greatest ns ≤ 256 → All (λ d. d ≤ 256) ns
+all_under : (ns : List ℕ) → greatest ns ≤ 256 → AllByRecursion (λ d. d ≤ 256) ns
 all_under [] h = tt
 all_under (n ∷ ns) h = (omega arith, all_under ns (omega arith))
 
-under_all : (ns : List ℕ) → All (λ d. d ≤ 256) ns → greatest ns ≤ 256
+under_all : (ns : List ℕ) → AllByRecursion (λ d. d ≤ 256) ns → greatest ns ≤ 256
 under_all [] a = omega arith
 under_all (n ∷ ns) a = omega (arith, a.0, under_all ns a.1)
 
@@ -68,7 +68,7 @@ program_of : (K : ℕ) (words rows term : List ℕ) → Headed K words rows term
 program_of K words rows term h a w =
     let table = a.table in
     let t = w.0 in
-    let keeps = subst (λ l. All (λ v. word_rule l v ≡ true) (encode t)) (sym a.words) w.2 in
+    let keeps = subst (λ l. AllByRecursion (λ v. word_rule l v ≡ true) (encode t)) (sym a.words) w.2 in
     let m : length rows ≡ length table = ap length (sym a.words) ∙ length_table_words table in
     let n : length term ≡ size t = ap length (sym w.3) ∙ length_encode t in
     let deep = (word_depths t).1 in
@@ -144,7 +144,7 @@ accepted K words s = (
 
 -- as many rows with the same words are the same rows, and what is behind them is the same
 tables_once :
-    (xs ys : List Row) (r q : List ℕ) → All RowFits xs → All RowFits ys → length xs ≡ length ys →
+    (xs ys : List Row) (r q : List ℕ) → AllByRecursion RowFits xs → AllByRecursion RowFits ys → length xs ≡ length ys →
     table_words xs ++ r ≡ table_words ys ++ q → (xs ≡ ys) × (r ≡ q)
 tables_once [] [] r q f g n e = (refl, e)
 tables_once [] (y ∷ ys) r q f g n e = absurd (omega arith)

@@ -1,6 +1,6 @@
 -- Rows that keep their rules and differ are the words of a table that keeps the rules of tables, and the other way round.
 use Rattle.std.proofs.Common.{◌≡◌, ℕ, zero, suc, ◌+◌, ◌<◌, ◌≤◌, true, eqb, ltb, List, [], ◌∷◌, length, get_or, Some, None, Option, sym, refl, ap, ◌∙◌, subst, inl, inr, arith}
-use Rattle.std.specs.List.{AllByRecursion as All}
+use Rattle.std.specs.List.{AllByRecursion}
 use Rattle.std.proofs.lemmas.Bool.{and_from, eq-eqb, lt-ltb, cases_lt, cases_order, both_ways}
 use Rattle.faults.specs.declared.Fault.{Fault}
 use Rattle.calculus.specs.Lists.{at}
@@ -22,7 +22,7 @@ record AtRow (table : List Row) (r : ℕ) (ty : Row) : Type 0 where
   word : get_or (table_words table) r 0 ≡ word_of (row_word ty)
   fits : RowFits ty
 
-at_row : (table : List Row) (r : ℕ) (ty : Row) → All RowFits table → at table r ≡ Some ty → AtRow table r ty
+at_row : (table : List Row) (r : ℕ) (ty : Row) → AllByRecursion RowFits table → at table r ≡ Some ty → AtRow table r ty
 at_row [] r ty f e = none e
 at_row (x ∷ xs) zero ty f e =
     let i : x ≡ ty = cc in record { inside = omega arith; word = ap (λ y. word_of (row_word y)) i; fits = subst RowFits i f.0 }
@@ -38,7 +38,7 @@ row_at (x ∷ xs) (suc r) l = row_at xs r (omega arith)
 record Tabled (K r : ℕ) (ws : List ℕ) : Type 0 where
   table : List Row
   words : table_words table ≡ ws
-  fits : All RowFits table
+  fits : AllByRecursion RowFits table
   standing : (q : ℕ) (ty : Row) → at table q ≡ Some ty → Standing K (r + q) ty
 
 tabled : (K : ℕ) (ws : List ℕ) (r : ℕ) → ((q : ℕ) → q < length ws → row_rule K (r + q) (get_or ws q 0) ≡ true) → Tabled K r ws
@@ -64,10 +64,10 @@ tabled K (w ∷ ws) r h =
 pub record TableOf (K : ℕ) (ws : List ℕ) : Type 0 where
   pub table : List Row
   pub words : table_words table ≡ ws
-  pub fits : All RowFits table
+  pub fits : AllByRecursion RowFits table
   pub formed : TableFormed K table
 
-module _ (K : ℕ) (table : List Row) (fits : All RowFits table) where
+module _ (K : ℕ) (table : List Row) (fits : AllByRecursion RowFits table) where
   formed_by :
       K + 2 ≤ length table → ((q : ℕ) (ty : Row) → at table q ≡ Some ty → Standing K q ty) →
       ((p q : ℕ) → p < q → q < length table → get_or (table_words table) p 0 ≡ get_or (table_words table) q 0 → ⊥) → TableFormed K table

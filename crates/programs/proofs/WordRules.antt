@@ -1,6 +1,6 @@
 -- The words of a term keep their rules exactly if the term is allowed with the table.
 use Rattle.std.proofs.Common.{◌≡◌, ℕ, zero, suc, ◌+◌, ◌*◌, ◌/◌, ◌^◌, ◌<◌, Bool, true, false, ◌&&◌, eqb, ltb, List, [], ◌∷◌, ◌++◌, length, get_or, Some, None, Option, sym, refl, ap, ◌∙◌, subst, inl, inr, append_assoc, append-nil, arith}
-use Rattle.std.specs.List.{AllByRecursion as All}
+use Rattle.std.specs.List.{AllByRecursion}
 use Rattle.std.proofs.lemmas.Bool.{and_parts, and_left, ltb-true, lt-ltb, le-ltb, cases_lt}
 use Rattle.std.proofs.ByRecursion.{All-append}
 use Rattle.calculus.specs.Lists.{at}
@@ -48,7 +48,7 @@ one_less r n =
     ]
 
 -- the kind of a row's word tells what the row is
-kind_at : (table : List Row) → All RowFits table → (r k : ℕ) → row_has_kind (table_words table) r k ≡ of_kind (at table r) k
+kind_at : (table : List Row) → AllByRecursion RowFits table → (r k : ℕ) → row_has_kind (table_words table) r k ≡ of_kind (at table r) k
 kind_at [] f r k = and_left (ltb r 0) (eqb (0 / 2 ^ 27) k) (le-ltb r 0 (omega arith))
 kind_at (ty ∷ tys) f zero k =
     ap (λ b. b && eqb (word_of (row_word ty) / 2 ^ 27) k) (lt-ltb 0 (suc (length (table_words tys))) (omega arith))
@@ -83,7 +83,7 @@ instance_kind (Some (function_type a b)) h = never h
 instance_kind (Some (coroutine_type a y b)) h = never h
 instance_kind (Some (instance_type y b)) h = (y, b, refl)
 
-module _ (table : List Row) (fits : All RowFits table) where
+module _ (table : List Row) (fits : AllByRecursion RowFits table) where
   is_function : (r : ℕ) → row_has_kind (table_words table) r 19 ≡ true → IsFunction table r
   is_function r h = function_kind (at table r) (sym (kind_at table fits r 19) ∙ h)
 
@@ -103,7 +103,7 @@ module _ (table : List Row) (fits : All RowFits table) where
   of_instance r h = kind_at table fits r 21 ∙ ap (λ o. of_kind o 21) h.2
 
   -- a term is allowed exactly if its first word may be in a term and its parts are allowed
-  parts_allowed : (t : Term) → may_be_in_term (table_words table) (first_word t) ≡ true → All (Allowed table) (parts t) → Allowed table t
+  parts_allowed : (t : Term) → may_be_in_term (table_words table) (first_word t) ≡ true → AllByRecursion (Allowed table) (parts t) → Allowed table t
   parts_allowed unit h a = tt
   parts_allowed (variable n) h a = tt
   parts_allowed (abstraction x r b) h a = (is_function r h, a.0)
@@ -120,7 +120,7 @@ module _ (table : List Row) (fits : All RowFits table) where
   parts_allowed (resumption l t u v w) h a = never h
   parts_allowed (suspension t v) h a = never h
 
-  allowed_parts : (t : Term) → Allowed table t → (may_be_in_term (table_words table) (first_word t) ≡ true) × All (Allowed table) (parts t)
+  allowed_parts : (t : Term) → Allowed table t → (may_be_in_term (table_words table) (first_word t) ≡ true) × AllByRecursion (Allowed table) (parts t)
   allowed_parts unit h = (refl, tt)
   allowed_parts (variable n) h = (refl, tt)
   allowed_parts (abstraction x r b) h = (of_function r h.0, (h.1, tt))
@@ -141,14 +141,14 @@ module _ (table : List Row) (fits : All RowFits table) where
   first_rule t f = ap (read_may_be_in_term (table_words table)) (first_of t (fits_parts t f).0).reads
 
   abbrev Keeps : List ℕ → Type 0
-  Keeps ws = All (λ w. word_rule (table_words table) w ≡ true) ws
+  Keeps ws = AllByRecursion (λ w. word_rule (table_words table) w ≡ true) ws
 
   abbrev Both : Term → Type 0
   Both t = Fits t → (Allowed table t → Keeps (encode t)) × ((vs : List ℕ) → Keeps (encode t ++ vs) → Allowed table t × Keeps vs)
 
   both_all :
-      (ts : List Term) → All Both ts → All Fits ts →
-      (All (Allowed table) ts → Keeps (encodes ts)) × ((vs : List ℕ) → Keeps (encodes ts ++ vs) → All (Allowed table) ts × Keeps vs)
+      (ts : List Term) → AllByRecursion Both ts → AllByRecursion Fits ts →
+      (AllByRecursion (Allowed table) ts → Keeps (encodes ts)) × ((vs : List ℕ) → Keeps (encodes ts ++ vs) → AllByRecursion (Allowed table) ts × Keeps vs)
   both_all [] a f = (λ h. tt, λ vs k. (tt, k))
   both_all (t ∷ ts) a f =
       let b = a.0 f.0 in
@@ -159,7 +159,7 @@ module _ (table : List Row) (fits : All RowFits table) where
             let q = c.1 vs p.1 in ((p.0, q.0), q.1),
       )
 
-  both_step : (t : Term) → All Both (parts t) → Both t
+  both_step : (t : Term) → AllByRecursion Both (parts t) → Both t
   both_step t a f =
       let c = both_all (parts t) a (fits_parts t f).1 in (
         λ h. let p = allowed_parts t h in subst Keeps (sym (encode_is t)) (first_rule t f ∙ p.0, c.0 p.1),
@@ -168,8 +168,8 @@ module _ (table : List Row) (fits : All RowFits table) where
             let q = c.1 vs p.1 in (parts_allowed t (sym (first_rule t f) ∙ p.0) q.0, q.1),
       )
 
-  pub allowed_keeps : (t : Term) → Fits t → Allowed table t → All (λ w. word_rule (table_words table) w ≡ true) (encode t)
+  pub allowed_keeps : (t : Term) → Fits t → Allowed table t → AllByRecursion (λ w. word_rule (table_words table) w ≡ true) (encode t)
   allowed_keeps t f = (by_parts Both both_step t f).0
 
-  pub keeps_allowed : (t : Term) → Fits t → All (λ w. word_rule (table_words table) w ≡ true) (encode t) → Allowed table t
+  pub keeps_allowed : (t : Term) → Fits t → AllByRecursion (λ w. word_rule (table_words table) w ≡ true) (encode t) → Allowed table t
   keeps_allowed t f k = ((by_parts Both both_step t f).1 [] (subst Keeps (sym (append-nil (encode t))) k)).0

@@ -1,6 +1,6 @@
 -- What is promised of reading a program.
 use Rattle.std.specs.Prelude.{◌≡◌, ℕ, suc, ◌+◌, ◌<◌, ◌≤◌, true, false, ◌⊎◌, ◌↔◌, List, ◌++◌, length, take, Ok, Err, ◌≢◌, slice_index}
-use Rattle.std.specs.List.{AllByRecursion as All}
+use Rattle.std.specs.List.{AllByRecursion}
 use Rattle.faults.specs.declared.numbers.FaultNumber.{FaultNumber}
 use Rattle.faults.specs.declared.numbers.FaultNumber.TheVariants.{Head, Row as RowFault, RowTwice, TermWord, TermEnd, Depth}
 use Rattle.faults.specs.Faults.{fault_of}
@@ -38,13 +38,13 @@ OneProgram =
 -- them is at a depth over 256.
 abbrev pub Begins : List ℕ → List ℕ → Type 0
 Begins rows ws =
-    (t : Term) × (rest : List ℕ) × Fits t × All (λ w. word_rule rows w ≡ true) (encode t) × (encode t ≡ ws ++ rest) ×
-    All (λ d. d ≤ 256) (take (length ws) (depths t))
+    (t : Term) × (rest : List ℕ) × Fits t × AllByRecursion (λ w. word_rule rows w ≡ true) (encode t) × (encode t ≡ ws ++ rest) ×
+    AllByRecursion (λ d. d ≤ 256) (take (length ws) (depths t))
 
 -- the words are those of a whole such term
 abbrev pub Whole : List ℕ → List ℕ → Type 0
 Whole rows ws =
-    (t : Term) × Fits t × All (λ w. word_rule rows w ≡ true) (encode t) × (encode t ≡ ws) × All (λ d. d ≤ 256) (depths t)
+    (t : Term) × Fits t × AllByRecursion (λ w. word_rule rows w ≡ true) (encode t) × (encode t ≡ ws) × AllByRecursion (λ d. d ≤ 256) (depths t)
 
 -- A refusal among the term words, at place p, which is that of term word k: the words before it begin a term, and with the word at the
 -- place they do not. By 8 the words before are a whole term, or there is no word at the place and they are none; by 7 the word breaks its

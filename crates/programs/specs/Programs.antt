@@ -1,6 +1,6 @@
 -- Programs: which words are those of a table and a term that keep the rules.
 use Rattle.std.specs.Prelude.{◌≡◌, ℕ, ◌+◌, ◌≤◌, List, ◌∷◌, ◌++◌, length, Some}
-use Rattle.std.specs.List.{AllByRecursion as All}
+use Rattle.std.specs.List.{AllByRecursion}
 use Rattle.calculus.specs.Lists.{at}
 use Rattle.calculus.specs.Terms.{Term, unit, variable, abstraction, coroutine, application, yield, start, resume, snapshot, fix, atom, operation, instance, resumption, suspension}
 use Rattle.calculus.specs.Rows.{Row, function_type, coroutine_type, instance_type, TableFormed}
@@ -54,7 +54,7 @@ pub record ProgramWords (K : ℕ) (words : List ℕ) (table : List Row) (t : Ter
   pub enough_rows : K + 2 ≤ length table
   pub few_rows : length table ≤ 512
   pub table_formed : TableFormed K table
-  pub rows_fit : All RowFits table
+  pub rows_fit : AllByRecursion RowFits table
   -- the term has at most 4,096 words and depth 256 at most, keeps the rules of program terms, and fits its words
   pub few_words : size t ≤ 4096
   pub shallow : depth t ≤ 256

@@ -1,6 +1,6 @@
 -- Where a suspension stands among the evaluated parts of the path's last term, seen from the words.
 use Rattle.std.proofs.Common.{◌≡◌, ℕ, suc, ◌+◌, List, [], ◌∷◌, ◌++◌, length, get_or, drop, Some, None, Option, refl, ap, ◌∙◌, append_assoc, arith, length-append}
-use Rattle.std.specs.List.{AllByRecursion as All}
+use Rattle.std.specs.List.{AllByRecursion}
 use Rattle.calculus.specs.Terms.{Term, application, yield, start, resume, snapshot, fix, operation, resumption, suspension, Value}
 use Rattle.calculus.specs.Parts.{parts, size, sizes}
 use Rattle.calculus.specs.Configurations.{Configuration}
@@ -106,7 +106,7 @@ frame_length fix_frame = refl
 frame_length (operation_left o b) = refl
 frame_length (operation_right o a) = omega (arith, length_encode a)
 
-frame_fits : (F : Frame) (t : Term) → Fits (plug F t) → All Fits (left_parts F)
+frame_fits : (F : Frame) (t : Term) → Fits (plug F t) → AllByRecursion Fits (left_parts F)
 frame_fits (application_left a) t h = tt
 frame_fits (application_right f) t h = (h.1, tt)
 frame_fits yield_frame t h = tt
@@ -121,7 +121,7 @@ frame_fits fix_frame t h = tt
 frame_fits (operation_left o b) t h = tt
 frame_fits (operation_right o a) t h = (h.1, tt)
 
-frame_values : (F : Frame) → Proper F → All Value (left_parts F)
+frame_values : (F : Frame) → Proper F → AllByRecursion Value (left_parts F)
 frame_values (application_left a) p = tt
 frame_values (application_right f) p = (p, tt)
 frame_values yield_frame p = tt

@@ -1,6 +1,6 @@
 -- The check over the words of a term answers the verdict on the term.
 use Rattle.std.proofs.Common.{◌≡◌, ℕ, ◌+◌, ◌/◌, ◌%◌, ◌^◌, ◌<◌, ◌≤◌, max, Bool, true, false, cond, not, ◌||◌, ltb, List, [], ◌∷◌, ◌++◌, length, drop, Ok, Err, sym, refl, ap, ◌∙◌, append_assoc, arith}
-use Rattle.std.specs.List.{AllByRecursion as All}
+use Rattle.std.specs.List.{AllByRecursion}
 use Rattle.std.proofs.lemmas.Bool.{lt-ltb, ne_eqb, eq-eqb}
 use Rattle.quantities.specs.Meaning.{Meaning}
 use Rattle.rules.specs.declared.model.Judged.{Judged}
@@ -23,12 +23,12 @@ use Rattle.typing.specs.Machine.{variables, scoped, fresh, added, is_full, is_bi
 use Rattle.typing.specs.Machine.Turn.{go}
 use Rattle.typing.proofs.Firsts.{head, judges, verdict_is}
 
-all_map : {X : Type 0} (P Q : X → Type 0) → ((x : X) → P x → Q x) → (xs : List X) → All P xs → All Q xs
+all_map : {X : Type 0} (P Q : X → Type 0) → ((x : X) → P x → Q x) → (xs : List X) → AllByRecursion P xs → AllByRecursion Q xs
 all_map P Q f [] a = tt
 all_map P Q f (x ∷ xs) a = (f x a.0, all_map P Q f xs a.1)
 
 -- no term of a list is deeper than the deepest
-within_deepest : (ts : List Term) → All (λ p. depth p ≤ deepest ts) ts
+within_deepest : (ts : List Term) → AllByRecursion (λ p. depth p ≤ deepest ts) ts
 within_deepest [] = tt
 within_deepest (t ∷ ts) =
     (omega arith, all_map (λ p. depth p ≤ deepest ts) (λ p. depth p ≤ max (depth t) (deepest ts)) (λ p q. omega arith) ts (within_deepest ts))
@@ -104,8 +104,8 @@ module _ (m : Meaning) (rows : List ℕ) where
 
     -- the parts of a frame, which is full when they are judged
     runs_all :
-        (ts : List Term) → All Runs ts → All Fits ts → (i : ℕ) (e : Frame) (fs : List Frame) (Γ : List Scoped) (rest : List ℕ) →
-        All (λ t. length fs + 1 + depth t ≤ n) ts → All (λ t. length Γ + depth t ≤ s) ts → e.done + length ts ≡ arity_of e.word →
+        (ts : List Term) → AllByRecursion Runs ts → AllByRecursion Fits ts → (i : ℕ) (e : Frame) (fs : List Frame) (Γ : List Scoped) (rest : List ℕ) →
+        AllByRecursion (λ t. length fs + 1 + depth t ≤ n) ts → AllByRecursion (λ t. length Γ + depth t ≤ s) ts → e.done + length ts ≡ arity_of e.word →
         arity_of e.word ≤ 4 →
         resolve (settle_on m rows Γ e fs) (λ gs Δ. run m rows s n i gs Δ (encodes ts ++ rest))
         ≡ judges m rows Γ i e ts (λ x. resolve (settle_on m rows Γ x fs) (λ gs Δ. run m rows s n (i + sizes ts) gs Δ rest))
@@ -131,7 +131,7 @@ module _ (m : Meaning) (rows : List ℕ) where
         by true = refl
         by false = lt-ltb (length Γ) s h
 
-    runs_step : (t : Term) → All Runs (parts t) → Runs t
+    runs_step : (t : Term) → AllByRecursion Runs (parts t) → Runs t
     runs_step t a f i fs Γ rest hn hs =
         let b = fits_parts t f in
         let d = within_deepest (parts t) in

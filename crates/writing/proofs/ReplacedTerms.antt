@@ -1,6 +1,6 @@
 -- To replace a variable's words by those of a term is to replace the variable by the term.
 use Rattle.std.proofs.Common.{◌≡◌, ℕ, suc, ◌+◌, ◌*◌, ◌^◌, Bool, true, false, cond, ◌&&◌, ◌||◌, eqb, ltb, List, [], ◌∷◌, ◌++◌, map, length, sym, refl, ap, ◌∙◌, append_assoc, append-nil, arith}
-use Rattle.std.specs.List.{AllByRecursion as All}
+use Rattle.std.specs.List.{AllByRecursion}
 use Rattle.std.proofs.lemmas.Bool.{ne_eqb, or_parts, and_parts, ltb-true}
 use Rattle.calculus.specs.Terms.{Term, unit, variable, abstraction, coroutine, application, yield, start, resume, snapshot, fix, atom, operation, instance, resumption, suspension}
 use Rattle.calculus.specs.Parts.{parts}
@@ -27,7 +27,7 @@ module _ (x : ℕ) (vs : List ℕ) where
   Stays t = Fits t → (n : ℕ) (rest : List ℕ) → replaced x vs (suc n) (encode t ++ rest) ≡ encode t ++ replaced x vs n rest
 
   stays_all :
-      (ts : List Term) → All Stays ts → All Fits ts → (n : ℕ) (rest : List ℕ) →
+      (ts : List Term) → AllByRecursion Stays ts → AllByRecursion Fits ts → (n : ℕ) (rest : List ℕ) →
       replaced x vs (n + length ts) (encodes ts ++ rest) ≡ encodes ts ++ replaced x vs n rest
   stays_all [] a f n rest = ap (λ m. replaced x vs m rest) (omega arith)
   stays_all (t ∷ ts) a f n rest =
@@ -36,7 +36,7 @@ module _ (x : ℕ) (vs : List ℕ) where
       rw (append_assoc (encode t) (encodes ts) rest, append_assoc (encode t) (encodes ts) (replaced x vs n rest), s)
       (a.0 f.0 (n + length ts) (encodes ts ++ rest) ∙ k)
 
-  stays_step : (t : Term) → All Stays (parts t) → Stays t
+  stays_step : (t : Term) → AllByRecursion Stays (parts t) → Stays t
   stays_step t a f n rest =
       let b = fits_parts t f in
       let h = first_of t b.0 in
@@ -52,7 +52,7 @@ module _ (x : ℕ) (v : Term) where
   Goes t = (rest : List ℕ) → replaced x (encode v) 0 (encode t ++ rest) ≡ encode (replace x v t) ++ replaced x (encode v) 0 rest
 
   goes_all :
-      (ts : List Term) → All Goes ts → (rest : List ℕ) →
+      (ts : List Term) → AllByRecursion Goes ts → (rest : List ℕ) →
       replaced x (encode v) 0 (encodes ts ++ rest) ≡ encodes (map (replace x v) ts) ++ replaced x (encode v) 0 rest
   goes_all [] a rest = refl
   goes_all (t ∷ ts) a rest =
@@ -64,7 +64,7 @@ module _ (x : ℕ) (v : Term) where
   -- a word that neither is a variable nor binds a name
   plain :
       (t : Term) → FirstFits t → (eqb (kind_number t) 1 || (eqb (kind_number t) 2 || eqb (kind_number t) 3)) ≡ false →
-      All Goes (parts t) → (rest : List ℕ) →
+      AllByRecursion Goes (parts t) → (rest : List ℕ) →
       replaced x (encode v) 0 (encode t ++ rest)
       ≡ (word_of (first_word t) ∷ encodes (map (replace x v) (parts t))) ++ replaced x (encode v) 0 rest
   plain t h nay a rest =
@@ -77,7 +77,7 @@ module _ (x : ℕ) (v : Term) where
   -- and so of a term whose replacement goes to its parts
   spread :
       (t u : Term) → FirstFits t → (eqb (kind_number t) 1 || (eqb (kind_number t) 2 || eqb (kind_number t) 3)) ≡ false →
-      All Goes (parts t) → first_word u ≡ first_word t → parts u ≡ map (replace x v) (parts t) → (rest : List ℕ) →
+      AllByRecursion Goes (parts t) → first_word u ≡ first_word t → parts u ≡ map (replace x v) (parts t) → (rest : List ℕ) →
       replaced x (encode v) 0 (encode t ++ rest) ≡ encode u ++ replaced x (encode v) 0 rest
   spread t u h nay a e g rest =
       plain t h nay a rest ∙ ap (λ l. l ++ replaced x (encode v) 0 rest) (sym (encode_is u ∙ (λ i. word_of (e i) ∷ encodes (g i))))

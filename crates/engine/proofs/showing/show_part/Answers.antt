@@ -4,7 +4,7 @@ use Rattle.calls.specs.Results.{Part, show_from}
 use Rattle.engine.proofs.ShownParts.{fault_known, entry_known}
 use Rattle.calls.specs.Entry.{entered}
 use Rattle.calls.specs.States.{Status, going}
-use Rattle.engine.specs.States.{number_refused}
+use Rattle.engine.specs.States.{status_number}
 use Rattle.engine.specs.Showing.{ShownAt}
 use Rattle.engine.proofs.showing.show_part.Goals as goal
 

@@ -84,8 +84,8 @@ impl<Q: QuantitySet> Engine<Q> {
 
     // The pending value of an offer, or the value of an end, as the part of the image that holds it; or the first fault: 2, 16, 17.
     pub fn show<'a, S: Showing>(&self, state: &S, image: &'a [u32]) -> Result<Shown<'a>, Fault>
-        ensures answer { shown result ≡ show_answer status image.now }
-        ensures part { ShowsTheValue status image.now }
+        ensures answer { shown result ≡ show_answer S.status image.now }
+        ensures part { ShowsTheValue S.status image.now }
     {
         show_part(image, state.number())
     }

@@ -2,7 +2,7 @@
 use Rattle.std.specs.Prelude.{ℕ, ◌/◌, ◌%◌, ◌^◌, cond, ◌&&◌, List, [], ◌∷◌, Some, None, Ok, Err, Option, Result, ◌==◌}
 use Rattle.faults.specs.declared.Fault.{Fault}
 use Rattle.calls.specs.Results.{Part}
-use Rattle.conveyor.specs.declared.drive.Usage.{Usage}
+use Rattle.belt.specs.declared.drive.Usage.{Usage}
 
 -- the payload of an atom (kind 10) of base 0
 abbrev pub count_in : ℕ → Option ℕ

@@ -4,7 +4,7 @@ ghost use Rattle.quantities.specs.Counts.{counts};
 ghost use Rattle.admission.specs.Admission.{admit_answer};
 ghost use Rattle.calls.specs.Results.{open_outcome, run_outcome, show_answer, take_outcome};
 ghost use Rattle.engine.specs.Answers.{opened, ran, taken};
-ghost use Rattle.conveyor.specs.Decoding.{count_of, counted, usage_of};
+ghost use Rattle.belt.specs.Decoding.{count_of, counted, usage_of};
 
 use engine::Engine;
 use engine::answers::{Ran, RunRefused, TakeRefused};
@@ -98,7 +98,7 @@ impl Drive {
 
     // The count that is offered, or that the run has ended with; nothing where it is no count.
     pub fn count<S: Showing>(&self, state: &S) -> Result<Option<u32>, Fault>
-        ensures { result ≡ counted (show_answer status self.now.image.items) }
+        ensures { result ≡ counted (show_answer S.status self.now.image.items) }
     {
         let shown = self.engine.show(state, self.image.as_slice())?;
         Ok(count_of(shown.words))

@@ -1,21 +1,24 @@
 // A belt sequence from its admission to its last value, as the loop of a drive runs it; then a sequence that is refused, and one that
 // outgrows its image.
-mod belt;
 mod drive;
 mod halt;
 mod kinds;
 mod looping;
+mod sequence;
 mod stages;
 
 use halt::Halt;
 use stages::{show_admission, show_full_image, show_refused, show_run};
+use std::process::ExitCode;
 
-fn main(rt: HostRuntime) -> Result<(), Halt> {
-    let shown = show_stages(&rt);
-    if let Err(halt) = &shown {
-        eprintln!(rt; "conveyor: {halt}")?;
+fn main(rt: HostRuntime) -> ExitCode {
+    match show_stages(&rt) {
+        Ok(()) => ExitCode::SUCCESS,
+        Err(halt) => {
+            let _ = eprintln!(rt; "belt: {halt}");
+            ExitCode::FAILURE
+        }
     }
-    shown
 }
 
 fn show_stages(rt: &HostRuntime) -> Result<(), Halt> {

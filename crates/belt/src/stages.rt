@@ -1,9 +1,9 @@
 // The stages, each with what the loop of a drive sees.
-use crate::belt::{BELT_SEQUENCE, FIRST_POSITION};
 use crate::drive::{Drive, STEPS_A_TICK};
 use crate::halt::Halt;
 use crate::kinds::TRUTH;
 use crate::looping::{Seen, print_end, print_state, run_belt};
+use crate::sequence::{BELT_SEQUENCE, FIRST_POSITION};
 use engine::answers::RunRefused;
 use engine::states::State;
 use std::io;

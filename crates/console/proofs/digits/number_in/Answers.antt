@@ -5,7 +5,7 @@ use Rattle.console.proofs.digits.number_in.Goals as goal
 -- a byte that is no digit
 pub returns-in_err-digit : goal.returns-in_err-digit
 returns-in_err-digit c =
-    c.from-residual.ensures
+    c.from_residual.ensures
     ∙ no_digit c.args.base c.args.limit c.loop-byte.value c.loop-byte.byte-index c.args.text.now (omega arith) c.in_err-digit.ensures
     ∙ c.loop-byte.invariant.0
 

@@ -1,5 +1,7 @@
 // A belt sequence from its admission to its last value, as the loop of a drive runs it; then a sequence that is refused, and one that
 // outgrows its image.
+#![tactic(auto)]
+
 mod drive;
 mod halt;
 mod kinds;

@@ -1,7 +1,6 @@
 -- What a call goes on with where the words are an image.
-use Rattle.std.proofs.Common.{◌≡◌, ℕ, Bool, true, false, cond, not, ◌||◌, eqb, leb, List, length, Some, Ok, Err, Result, sym, refl, ap, ◌∙◌, arith}
+use Rattle.std.proofs.Common.{◌≡◌, ℕ, Bool, true, false, cond, not, ◌||◌, leb, List, length, Ok, Err, refl, ap, ◌∙◌, arith}
 use Rattle.std.proofs.lemmas.Bool.{le-leb, and_from, eq-eqb, ne_eqb}
-use Rattle.faults.specs.declared.Fault.{Fault}
 use Rattle.faults.specs.declared.numbers.FaultNumber.TheVariants.{ImageLength, SpareLength, OtherState}
 use Rattle.faults.specs.Faults.{fault_of}
 use Rattle.calculus.specs.Terms.{Term, is_value, is_suspension}
@@ -11,7 +10,7 @@ use Rattle.image.specs.Stepping.{rests}
 use Rattle.image.specs.Reading.{reading}
 use Rattle.image.proofs.Exact.{image_reads}
 use Rattle.calls.specs.States.{Status, going, offering, ended, status_of, is_of}
-use Rattle.calls.specs.Entry.{allowed_length, on_length, on_spare, of_status, entered, entered_with}
+use Rattle.calls.specs.Entry.{allowed_length, on_spare, of_status, entered, entered_with}
 
 -- a state by its number, so that no two are the same
 abbrev number : Status → ℕ

@@ -1,17 +1,16 @@
 -- A call is entered or refused, said of configurations.
-use Rattle.std.proofs.Common.{◌≡◌, ℕ, ◌≤◌, Bool, true, false, cond, ◌&&◌, eqb, leb, ◌⊎◌, List, length, Some, None, Ok, Err, Option, Result, sym, refl, ap, ◌∙◌, subst, inl, inr, arith}
+use Rattle.std.proofs.Common.{◌≡◌, ℕ, Bool, true, false, cond, eqb, leb, ◌⊎◌, List, length, Some, None, Ok, Err, Option, Result, sym, refl, ap, ◌∙◌, inl, inr, arith}
 use Rattle.std.proofs.lemmas.Bool.{le-leb, leb-true, and_from, and_parts, eqb-true, eqb-false, eq-eqb, both_ways}
 use Rattle.faults.specs.declared.Fault.{Fault}
 use Rattle.faults.specs.declared.numbers.FaultNumber.TheVariants.{ImageLength, SpareLength, NotImage, OtherState}
 use Rattle.faults.specs.Faults.{fault_of}
-use Rattle.calculus.specs.Terms.{Term, suspension, is_value, is_suspension}
+use Rattle.calculus.specs.Terms.{Term, is_value, is_suspension}
 use Rattle.calculus.specs.Configurations.{Configuration}
-use Rattle.calculus.proofs.Tests.{never}
 use Rattle.image.specs.Images.{fewest_words, most_words, Image}
 use Rattle.image.specs.Reading.{reading}
 use Rattle.image.proofs.Exact.{image_reads, reads_image}
 use Rattle.calls.specs.States.{Status, going, offering, ended, status_of, is_of}
-use Rattle.calls.specs.Entry.{allowed_length, on_length, on_spare, of_status, entered, entered_with}
+use Rattle.calls.specs.Entry.{allowed_length, on_length, of_status, entered, entered_with}
 use Rattle.calls.specs.Refusals.{LengthAllowed, NotEntered, image_length, spare_length, not_image, other_state}
 use Rattle.calls.proofs.Entered.{own_status, going_status, going_rests}
 use Rattle.calls.proofs.Points.{suspends}

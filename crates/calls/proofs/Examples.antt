@@ -1,5 +1,5 @@
 -- Whole runs of small programs, computed by the definitions of the calls.
-use Rattle.std.proofs.Common.{◌≡◌, ℕ, ◌+◌, ◌*◌, ◌^◌, List, [], ◌∷◌, ◌++◌, length, replicate, Ok, Err, refl, arith}
+use Rattle.std.proofs.Common.{◌≡◌, ℕ, List, [], ◌∷◌, ◌++◌, replicate, Ok, Err, refl, arith}
 use Rattle.faults.specs.declared.numbers.FaultNumber.TheVariants.{ImageFull}
 use Rattle.faults.specs.Faults.{fault_of}
 use Rattle.quantities.specs.Counts.{counts}

@@ -1,5 +1,5 @@
 -- Open accepts exactly the admitted programs whose term has room, and refuses every other for its reason.
-use Rattle.std.proofs.Common.{◌≡◌, ℕ, ◌<◌, ◌≤◌, Bool, true, false, cond, ◌&&◌, ◌||◌, eqb, ltb, leb, ◌⊎◌, List, [], ◌∷◌, length, Ok, Err, Result, sym, refl, ap, ◌∙◌, subst, inl, inr, arith}
+use Rattle.std.proofs.Common.{◌≡◌, ℕ, ◌≤◌, Bool, true, false, cond, ◌||◌, eqb, ltb, leb, List, [], length, Ok, Err, Result, sym, refl, ap, ◌∙◌, subst, inl, inr}
 use Rattle.std.proofs.lemmas.Bool.{ltb-true, ltb-false, le-ltb, le-leb, and_from, or_cases, or_parts, or_from, eqb-true, eqb-false, eq-eqb}
 use Rattle.faults.specs.declared.Fault.{Fault}
 use Rattle.faults.specs.declared.numbers.FaultNumber.TheVariants.{WorkShort, ImageLength, SpareLength, ImageFull}
@@ -12,15 +12,13 @@ use Rattle.programs.specs.Reading.{Split, read_program}
 use Rattle.programs.proofs.Programs as programs
 use Rattle.encoding.specs.Encoding.{encode}
 use Rattle.rules.specs.declared.model.Judged.{Judged}
-use Rattle.rules.specs.Rules.{accepted}
 use Rattle.admission.specs.Admission.{admit_answer}
 use Rattle.admission.specs.Laws.{Admitted, Decides}
 use Rattle.admission.proofs.Deciding.{decides}
 use Rattle.image.specs.Images.{fewest_words, most_words, used}
-use Rattle.image.specs.Reading.{term_in}
-use Rattle.calls.specs.States.{Status, status_of}
+use Rattle.calls.specs.States.{Status}
 use Rattle.calls.specs.Entry.{allowed_length, on_length, on_spare}
-use Rattle.calls.specs.Results.{CallOutcome, term_read, term_if_admitted, on_work, on_room, admitted_term, open_term, open_from, open_outcome}
+use Rattle.calls.specs.Results.{term_read, term_if_admitted, on_room, admitted_term, open_term, open_from}
 use Rattle.calls.specs.Refusals.{LengthAllowed, MemoryFits, OpenRefused, work_short, image_length, spare_length, not_program, untypable, image_full}
 use Rattle.calls.specs.Soundness.{AdmittedWithRoom, OpensExactly}
 use Rattle.calls.proofs.Entering.{length_tests, length_fails}

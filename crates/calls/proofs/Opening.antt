@@ -1,35 +1,30 @@
 -- An accepted open admits a program, and every history from there on is sound.
-use Rattle.std.proofs.Common.{◌≡◌, ℕ, zero, suc, ◌<◌, ◌≤◌, Bool, true, false, cond, ◌&&◌, ◌||◌, eqb, ltb, leb, List, [], ◌∷◌, ◌++◌, length, get_or, Some, None, Ok, Err, Option, Result, sym, refl, ap, ◌∙◌, subst, append-nil, arith}
+use Rattle.std.proofs.Common.{◌≡◌, ℕ, ◌≤◌, Bool, true, false, cond, ◌||◌, eqb, ltb, leb, List, [], length, get_or, Ok, Err, Result, sym, refl, ap, ◌∙◌, subst, append-nil, arith}
 use Rattle.std.proofs.lemmas.Bool.{ltb-false, leb-true, eqb-true, and_parts, or_parts}
 use Rattle.faults.specs.declared.Fault.{Fault}
 use Rattle.faults.specs.declared.numbers.FaultNumber.TheVariants.{WorkShort, ImageLength, SpareLength, ImageFull}
 use Rattle.faults.specs.Faults.{fault_of}
 use Rattle.quantities.specs.Meaning.{Meaning, Lawful as Law}
 use Rattle.calculus.specs.Terms.{Term, unit}
-use Rattle.calculus.specs.Rows.{Row}
-use Rattle.calculus.specs.Configurations.{Configuration, ◌∣◌}
+use Rattle.calculus.specs.Configurations.{◌∣◌}
 use Rattle.calculus.proofs.Configured.{program_configured}
 use Rattle.encoding.specs.Encoding.{encode, Fits}
-use Rattle.encoding.specs.Decoding.{terms_in}
 use Rattle.encoding.proofs.Reading.{terms_in_encode}
-use Rattle.programs.specs.Programs.{ProgramWords}
 use Rattle.programs.specs.Reading.{Split, read_program}
 use Rattle.programs.proofs.Programs as programs
 use Rattle.rules.specs.declared.model.Judged.{Judged}
-use Rattle.rules.specs.Rules.{accepted}
 use Rattle.admission.specs.Admission.{admit_answer}
 use Rattle.admission.specs.Laws.{setting, Admitted}
 use Rattle.admission.proofs.Deciding.{is_program, decides}
-use Rattle.image.specs.Images.{fewest_words, most_words, most_bindings, used, image_of, Encodable, FitsLength, Image}
+use Rattle.image.specs.Images.{fewest_words, most_words, used, image_of, Encodable, FitsLength, Image}
 use Rattle.image.specs.Reading.{term_in}
 use Rattle.image.proofs.Keeping.{image_is}
 use Rattle.calls.specs.States.{Status, status_of}
 use Rattle.calls.specs.Entry.{allowed_length, on_length, on_spare}
-use Rattle.calls.specs.Results.{CallOutcome, term_read, term_if_admitted, on_work, on_room, admitted_term, open_term, open_from, open_outcome}
-use Rattle.calls.specs.Histories.{Point, point}
+use Rattle.calls.specs.Results.{term_read, term_if_admitted, on_work, on_room, admitted_term, open_term, open_from}
+use Rattle.calls.specs.Histories.{point}
 use Rattle.calls.specs.Refusals.{MemoryFits}
 use Rattle.calls.specs.Soundness.{SoundAfterOpen, OpenSound, AdmittedWithRoom}
-use Rattle.calls.proofs.Points.{Stands}
 use Rattle.calls.proofs.Sound.{sound_from}
 
 -- no answer accepts and refuses

@@ -1,5 +1,5 @@
 -- Through every call a point keeps an image of a configuration that comes later.
-use Rattle.std.proofs.Common.{◌≡◌, ℕ, true, ◌⊎◌, List, [], ◌∷◌, length, Some, None, Ok, Err, Option, Result, sym, refl, ap, ◌∙◌, subst, inl, inr, arith}
+use Rattle.std.proofs.Common.{◌≡◌, ℕ, true, ◌⊎◌, List, length, Some, None, Ok, Err, Option, Result, sym, refl, subst, inl, inr, arith}
 use Rattle.std.proofs.lemmas.Bool.{cases_eq}
 use Rattle.faults.specs.declared.Fault.{Fault}
 use Rattle.faults.specs.declared.numbers.FaultNumber.TheVariants.{SpareLength}
@@ -7,15 +7,14 @@ use Rattle.faults.specs.Faults.{fault_of}
 use Rattle.quantities.specs.Meaning.{Meaning, Lawful as Law}
 use Rattle.calculus.specs.Terms.{Term, unit, variable, abstraction, coroutine, application, yield, start, resume, snapshot, fix, atom, operation, instance, resumption, suspension, is_suspension}
 use Rattle.calculus.specs.Configurations.{Configuration, ◌∣◌}
-use Rattle.calculus.specs.Views.{view}
 use Rattle.calculus.specs.Histories.{at_once, then_take}
 use Rattle.calculus.proofs.Tests.{never}
 use Rattle.image.specs.Images.{image_of, Image}
-use Rattle.image.specs.Stepping.{Stop, steps_in}
+use Rattle.image.specs.Stepping.{steps_in}
 use Rattle.image.proofs.Keeping.{steps_keep_images, take_keeps_images}
 use Rattle.calls.specs.States.{Status, going, offering, ended, status_of}
 use Rattle.calls.specs.Entry.{entered_with}
-use Rattle.calls.specs.Results.{RunOutcome, unless_refused, stopped, run_from, run_outcome, CallOutcome, suspended_of, take_from, take_outcome}
+use Rattle.calls.specs.Results.{unless_refused, stopped, run_from, take_from}
 use Rattle.calls.specs.Histories.{Call, Point, point, state_after, Leads, by_run, by_show_of_offer, by_show_of_end, by_take, Follows, no_calls, call_first}
 use Rattle.calls.proofs.Stopping.{LaterThan, later_still, stop_later, refused_going}
 use Rattle.calls.proofs.Entered.{own_status, going_status, enters_with, enters_not}

@@ -1,22 +1,21 @@
 -- A run makes the steps of the relation, a take takes the offer.
-use Rattle.std.proofs.Common.{◌≡◌, ℕ, zero, suc, ◌<◌, ◌≤◌, Bool, true, false, cond, ltb, ◌⊎◌, List, [], ◌∷◌, ◌++◌, length, Some, None, Ok, Err, Option, Result, sym, refl, ap, ◌∙◌, subst, inl, inr, arith, length-append}
+use Rattle.std.proofs.Common.{◌≡◌, ℕ, zero, suc, ◌<◌, ◌≤◌, Bool, true, false, cond, ltb, ◌⊎◌, List, [], ◌∷◌, length, Some, None, Ok, Err, Option, Result, sym, refl, ap, ◌∙◌, subst, inl, inr, arith, length-append}
 use Rattle.std.proofs.lemmas.Bool.{ltb-true, ltb-false}
 use Rattle.faults.specs.declared.Fault.{Fault}
-use Rattle.faults.specs.declared.numbers.FaultNumber.TheVariants.{NoRule, Labels, ImageFull}
+use Rattle.faults.specs.declared.numbers.FaultNumber.TheVariants.{Labels, ImageFull}
 use Rattle.faults.specs.Faults.{fault_of}
 use Rattle.quantities.specs.Meaning.{Meaning, Lawful as Law}
 use Rattle.calculus.specs.Terms.{Term, suspension}
 use Rattle.calculus.specs.Configurations.{Bindings, rows, Configuration, ◌∣◌}
 use Rattle.calculus.specs.Places.{place}
-use Rattle.calculus.specs.Steps.{Still, Origin, Growth, same_rows, one_more as one_more_row}
+use Rattle.calculus.specs.Steps.{Origin, Growth, same_rows, one_more as one_more_row}
 use Rattle.calculus.specs.Next.{next}
 use Rattle.calculus.proofs.Agreement.{agrees}
 use Rattle.calculus.proofs.Growth.{grows}
 use Rattle.image.specs.Images.{most_bindings, used, image_of, Image}
-use Rattle.image.specs.Stepping.{if_it_fits, step_result, step_in, rests, Stop, stop_at, one_more, steps_in}
+use Rattle.image.specs.Stepping.{step_result, step_in, rests, Stop, stop_at, one_more, steps_in}
 use Rattle.image.proofs.Keeping.{length_image, made, steps_keep_images, steps_keep_length, take_shorter, take_keeps_images}
 use Rattle.calls.specs.States.{Status, going, offering, status_of}
-use Rattle.calls.specs.Entry.{entered_with}
 use Rattle.calls.specs.Results.{unless_refused, stopped, run_from, take_from}
 use Rattle.calls.specs.Runs.{Successor, Steps, no_step, step_more, StepRefused, RunLaw, RunsBySteps, TakeLaw, TakesTheOffer}
 use Rattle.calls.proofs.Entered.{own_status}

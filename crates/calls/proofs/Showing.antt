@@ -1,7 +1,7 @@
 -- Show hands out the value as the part of the image that holds it.
-use Rattle.std.proofs.Common.{◌≡◌, ℕ, suc, ◌+◌, ◌-◌, Bool, true, false, ◌⊎◌, List, [], ◌∷◌, ◌++◌, length, drop, replicate, Ok, Err, sym, refl, ap, ◌∙◌, subst, inl, inr, append_assoc, arith}
+use Rattle.std.proofs.Common.{◌≡◌, ℕ, suc, ◌+◌, ◌-◌, true, List, ◌++◌, length, drop, replicate, sym, refl, ap, ◌∙◌, subst, inl, inr, append_assoc, arith}
 use Rattle.std.proofs.lemmas.List.{drop-drop, drop_at}
-use Rattle.calculus.specs.Terms.{Term, unit, variable, abstraction, coroutine, application, yield, start, resume, snapshot, fix, atom, operation, instance, resumption, suspension, is_value, Value}
+use Rattle.calculus.specs.Terms.{Term, unit, variable, abstraction, coroutine, application, yield, start, resume, snapshot, fix, atom, operation, instance, resumption, suspension, is_value}
 use Rattle.calculus.specs.Parts.{size}
 use Rattle.calculus.specs.Configurations.{Configuration, ◌∣◌}
 use Rattle.calculus.specs.Views.{view}
@@ -12,11 +12,11 @@ use Rattle.encoding.proofs.Places.{stands_from}
 use Rattle.image.specs.Images.{bindings_words, used, Image}
 use Rattle.image.proofs.Whole.{laid}
 use Rattle.calls.specs.States.{Status, going, offering, ended, status_of}
-use Rattle.calls.specs.Results.{Part, shown_of, show_from, show_answer}
-use Rattle.calls.specs.Runs.{IsPart, ShowLaw, of_offer, of_end, ShowsTheValue}
+use Rattle.calls.specs.Results.{shown_of, show_from}
+use Rattle.calls.specs.Runs.{ShowLaw, of_offer, of_end, ShowsTheValue}
 use Rattle.calls.proofs.Entered.{own_status}
 use Rattle.calls.proofs.Points.{suspends}
-use Rattle.calls.proofs.Entering.{Enters, Entry, enters_or_not, enters_alike}
+use Rattle.calls.proofs.Entering.{enters_or_not, enters_alike}
 
 -- a value shows itself
 pub shows_itself : (t : Term) → is_value t ≡ true → shown_of (view t) t ≡ record { place = 1; words = encode t }

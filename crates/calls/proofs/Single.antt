@@ -1,25 +1,23 @@
 -- A single step at a point, and which refusals a call can meet there.
-use Rattle.std.proofs.Common.{◌≡◌, ℕ, zero, suc, ◌<◌, ◌≤◌, Bool, true, false, cond, ◌||◌, ltb, ◌⊎◌, List, [], ◌∷◌, length, Some, None, Ok, Err, Option, Result, sym, refl, ap, ◌∙◌, subst, inl, inr, arith}
+use Rattle.std.proofs.Common.{◌≡◌, ℕ, Bool, true, false, cond, ltb, List, length, Some, None, Ok, Err, Option, Result, sym, refl, ap, ◌∙◌, subst, inl, inr, arith}
 use Rattle.std.proofs.lemmas.Bool.{cases_eq, lt-ltb, le-ltb, or_cases}
 use Rattle.faults.specs.declared.Fault.{Fault}
 use Rattle.faults.specs.declared.numbers.FaultNumber.TheVariants.{SpareLength, Labels, ImageFull}
 use Rattle.faults.specs.Faults.{fault_of}
 use Rattle.quantities.specs.Meaning.{Meaning}
-use Rattle.calculus.specs.Terms.{Term, suspension, is_value, is_suspension}
-use Rattle.calculus.specs.Configurations.{Configuration, ◌∣◌}
+use Rattle.calculus.specs.Terms.{Term, is_value, is_suspension}
+use Rattle.calculus.specs.Configurations.{Configuration}
 use Rattle.calculus.specs.Places.{place}
 use Rattle.calculus.specs.Steps.{Step}
-use Rattle.calculus.specs.Next.{next}
 use Rattle.calculus.proofs.Agreement.{agrees}
 use Rattle.calculus.proofs.Rest.{still_value, still_suspension}
-use Rattle.image.specs.Images.{most_bindings, used, image_of, Image}
-use Rattle.image.specs.Stepping.{if_it_fits, step_result, step_in, rests, Stop, stop_at, one_more, steps_in}
-use Rattle.calls.specs.States.{Status, going, offering, ended, status_of}
-use Rattle.calls.specs.Entry.{entered, entered_with}
-use Rattle.calls.specs.Results.{RunOutcome, unless_refused, stopped, run_from, run_outcome, CallOutcome, suspended_of, take_from, take_outcome, Part, show_from, show_answer}
+use Rattle.image.specs.Images.{most_bindings, used, image_of}
+use Rattle.image.specs.Stepping.{if_it_fits, step_result, step_in, rests, stop_at, one_more, steps_in}
+use Rattle.calls.specs.States.{Status, going, offering, status_of}
+use Rattle.calls.specs.Results.{RunOutcome, unless_refused, stopped, run_from, run_outcome, suspended_of, take_from, show_from}
 use Rattle.calculus.specs.Views.{view}
 use Rattle.calls.specs.Histories.{Point}
-use Rattle.calls.specs.Soundness.{refused_at, SingleStep, RefusedOnlyBy}
+use Rattle.calls.specs.Soundness.{SingleStep, RefusedOnlyBy}
 use Rattle.calls.proofs.Stopping.{OfRoom, HasSuccessors, refused_for_room}
 use Rattle.calls.proofs.Entered.{going_status, enters, enters_with, enters_not}
 use Rattle.calls.proofs.Points.{Stands, suspends}

@@ -1,5 +1,5 @@
 -- Every history of calls from a typed program is sound.
-use Rattle.std.proofs.Common.{◌≡◌, ℕ, Bool, true, false, ◌||◌, ◌⊎◌, List, [], Some, sym, refl, ap, ◌∙◌, subst, inl, inr, arith}
+use Rattle.std.proofs.Common.{◌≡◌, ℕ, Bool, true, false, ◌||◌, ◌⊎◌, List, [], Some, sym, ap, ◌∙◌, subst, inl, inr, arith}
 use Rattle.calculus.specs.Terms.{Term, suspension, Program, Value, is_value, is_suspension}
 use Rattle.calculus.specs.Rows.{Setting, WellFormed}
 use Rattle.calculus.specs.Typing.{Typed}
@@ -11,13 +11,12 @@ use Rattle.calculus.proofs.Agreement.{agrees}
 use Rattle.calculus.proofs.Histories.{always}
 use Rattle.calculus.proofs.Lasting.{lasting}
 use Rattle.image.specs.Images.{Image}
-use Rattle.image.specs.Reading.{reading}
 use Rattle.image.specs.Stepping.{rests}
 use Rattle.calls.specs.Histories.{Call, Point, Follows}
 use Rattle.calls.specs.Soundness.{SoundAt, BindingsLast, SoundFrom}
 use Rattle.image.proofs.Exact.{image_reads}
-use Rattle.calls.proofs.Stopping.{LaterThan, later_still, HasSuccessors}
-use Rattle.calls.proofs.Points.{Stands, LaterPoint, follows_on}
+use Rattle.calls.proofs.Stopping.{later_still, HasSuccessors}
+use Rattle.calls.proofs.Points.{Stands, follows_on}
 use Rattle.calls.proofs.Single.{single, refusals}
 
 -- an image stands for one configuration

@@ -1,10 +1,10 @@
 -- Where a run of steps stops: what comes of its configuration, and why it stops.
-use Rattle.std.proofs.Common.{◌≡◌, ℕ, zero, suc, ◌<◌, ◌≤◌, Bool, true, false, cond, ltb, ◌⊎◌, length, Some, None, Ok, Err, Option, Result, sym, refl, ap, ◌∙◌, inl, inr, arith}
+use Rattle.std.proofs.Common.{◌≡◌, ℕ, zero, suc, Bool, true, false, cond, ltb, ◌⊎◌, length, Some, None, Ok, Err, Result, sym, refl, ap, ◌∙◌, inl, inr, arith}
 use Rattle.faults.specs.declared.Fault.{Fault}
 use Rattle.faults.specs.declared.numbers.FaultNumber.TheVariants.{Labels, ImageFull}
 use Rattle.quantities.specs.Meaning.{Meaning}
 use Rattle.calculus.specs.Terms.{Term}
-use Rattle.calculus.specs.Configurations.{Bindings, Configuration, ◌∣◌}
+use Rattle.calculus.specs.Configurations.{Bindings, Configuration}
 use Rattle.calculus.specs.Places.{place}
 use Rattle.calculus.specs.Next.{next}
 use Rattle.calculus.specs.Histories.{Later, at_once, then_step, then_take}

@@ -1,5 +1,5 @@
 -- What is proved of the calls, for every quantity set that keeps its law: each promise is one statement.
-use Rattle.std.specs.Prelude.{◌≡◌, ℕ, List, ◌≢◌}
+use Rattle.std.specs.Prelude.{ℕ, List, ◌≢◌}
 use Rattle.quantities.specs.Meaning.{Meaning, Lawful}
 use Rattle.calls.specs.States.{Status, going}
 use Rattle.calls.specs.Runs.{RunsBySteps, TakesTheOffer, ShowsTheValue}

@@ -1,2 +1,4 @@
 // What the calls answer, and what holds after every history of them.
+#![tactic(auto)]
+
 pub mod theorems;

@@ -1,4 +1,6 @@
 // The engine over standard input: one answer line for each command line.
+#![tactic(auto)]
+
 mod answer;
 mod command;
 mod digits;

@@ -1,5 +1,5 @@
 -- The words of an admitted program's term.
-use Rattle.std.proofs.Common.{◌≡◌, ℕ, suc, ◌≤◌, List, [], ◌∷◌, length, Some, None, Ok, Err, Option, Result, sym, refl, ap, ◌∙◌, subst, arith}
+use Rattle.std.proofs.Common.{◌≡◌, ℕ, suc, ◌≤◌, List, [], ◌∷◌, length, Some, None, Ok, Err, Option, Result, sym, refl, ap, ◌∙◌, arith}
 use Rattle.faults.specs.declared.Fault.{Fault}
 use Rattle.quantities.specs.Meaning.{Meaning, Lawful as Law}
 use Rattle.calculus.specs.Terms.{Term}
@@ -12,7 +12,6 @@ use Rattle.programs.proofs.Programs as programs
 use Rattle.rules.specs.declared.model.Judged.{Judged}
 use Rattle.admission.specs.Admission.{admit_answer}
 use Rattle.admission.proofs.Deciding.{decides}
-use Rattle.image.specs.Reading.{term_in}
 use Rattle.calls.specs.Results.{term_read, term_if_admitted, admitted_term}
 use Rattle.calls.proofs.Opening.{own_term}
 

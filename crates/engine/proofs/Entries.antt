@@ -1,13 +1,12 @@
 -- What the first word of an image's term says of its state, and what is known once a call is entered.
-use Rattle.std.proofs.Common.{◌≡◌, ℕ, ◌≤◌, Bool, true, false, cond, not, ◌||◌, eqb, leb, List, length, get_or, Some, None, Ok, Err, Option, Result, sym, refl, ap, ◌∙◌, arith}
+use Rattle.std.proofs.Common.{◌≡◌, ℕ, Bool, true, false, cond, eqb, List, get_or, Some, None, Ok, Err, sym, refl, ap, ◌∙◌}
 use Rattle.std.proofs.lemmas.Bool.{ne_eqb, eq-eqb}
-use Rattle.faults.specs.declared.Fault.{Fault}
 use Rattle.faults.specs.declared.numbers.FaultNumber.TheVariants.{NotImage, OtherState}
 use Rattle.faults.specs.Faults.{fault_of}
 use Rattle.calculus.specs.Terms.{Term, unit, variable, abstraction, coroutine, application, yield, start, resume, snapshot, fix, atom, operation, instance, resumption, suspension, is_value, is_suspension}
 use Rattle.calculus.specs.Configurations.{Configuration}
 use Rattle.words.specs.Kinds.{number_of}
-use Rattle.layout.specs.Layout.{kind_of, word_of}
+use Rattle.layout.specs.Layout.{kind_of}
 use Rattle.encoding.specs.Encoding.{first_word, Stands}
 use Rattle.encoding.proofs.Parts.{fits_parts}
 use Rattle.encoding.proofs.FirstWord.{first_of}

@@ -1,5 +1,5 @@
 -- The image of a term with no bindings.
-use Rattle.std.proofs.Common.{◌≡◌, ℕ, suc, ◌+◌, ◌-◌, ◌<◌, ◌≤◌, cond, ltb, List, [], ◌∷◌, ◌++◌, length, get_or, drop, replicate, Ok, Err, Result, sym, refl, ap, ◌∙◌, append-nil, arith}
+use Rattle.std.proofs.Common.{◌≡◌, ℕ, suc, ◌+◌, ◌-◌, ◌<◌, cond, List, [], ◌∷◌, ◌++◌, length, get_or, drop, replicate, Ok, Err, Result, sym, ap, ◌∙◌, append-nil, arith}
 use Rattle.std.proofs.lemmas.Bool.{le-ltb}
 use Rattle.faults.specs.declared.Fault.{Fault}
 use Rattle.faults.specs.declared.numbers.FaultNumber.TheVariants.{ImageFull}
@@ -11,12 +11,10 @@ use Rattle.layout.specs.Layout.{word_of}
 use Rattle.encoding.specs.Encoding.{encode, Fits, Stands}
 use Rattle.encoding.proofs.Places.{stands_from}
 use Rattle.image.specs.Images.{used, image_of}
-use Rattle.calls.specs.States.{status_of}
-use Rattle.calls.specs.Results.{CallOutcome, on_room, open_from}
+use Rattle.calls.specs.Results.{on_room, open_from}
 use Rattle.engine.specs.declared.states.State.{State}
 use Rattle.engine.specs.States.{state_of, status_at}
 use Rattle.engine.specs.Answers.{opened}
-use Rattle.engine.specs.Opening.{Opens}
 use Rattle.engine.proofs.Entries.{standing_status}
 
 module _ (t : Term) (f : Fits t) (term image image' : List ℕ) (e : term ≡ encode t) (w : ℕ) (h : w ≡ word_of (W.ImageHead (length term + 1) 0)) where

@@ -1,5 +1,5 @@
 -- What a run and a take answer and leave, from what their code has written.
-use Rattle.std.proofs.Common.{◌≡◌, ℕ, Bool, true, false, cond, eqb, List, length, get_or, Some, None, Ok, Err, Option, Result, sym, refl, ap, ◌∙◌, subst, arith}
+use Rattle.std.proofs.Common.{◌≡◌, ℕ, Bool, true, false, cond, eqb, List, length, get_or, Some, None, Ok, Err, Option, Result, sym, ap, ◌∙◌, subst, arith}
 use Rattle.faults.specs.declared.Fault.{Fault}
 use Rattle.faults.specs.declared.numbers.FaultNumber.TheVariants.{ImageLength, SpareLength}
 use Rattle.faults.specs.Faults.{fault_of}

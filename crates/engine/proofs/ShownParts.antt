@@ -1,26 +1,24 @@
 -- The value that is shown stands in the image.
-use Rattle.std.proofs.Common.{◌≡◌, ℕ, suc, ◌+◌, ◌-◌, ◌<◌, ◌≤◌, Bool, true, false, cond, List, [], ◌∷◌, ◌++◌, length, drop, replicate, Some, None, Ok, Err, Option, Result, sym, refl, ap, ◌∙◌, subst, append_assoc, arith}
+use Rattle.std.proofs.Common.{◌≡◌, ℕ, ◌-◌, Bool, true, false, cond, List, ◌++◌, length, drop, replicate, Some, None, Ok, Err, Option, Result, sym, refl, ap, ◌∙◌, subst, append_assoc, arith}
 use Rattle.std.proofs.lemmas.List.{drop-drop}
 use Rattle.faults.specs.declared.Fault.{Fault}
 use Rattle.faults.specs.declared.numbers.FaultNumber.TheVariants.{ImageLength, OtherState}
 use Rattle.faults.specs.Faults.{fault_of}
 use Rattle.calculus.specs.Terms.{Term, suspension, is_value, is_suspension}
-use Rattle.calculus.specs.Parts.{size}
 use Rattle.calculus.specs.Configurations.{Configuration, ◌∣◌}
-use Rattle.encoding.specs.Encoding.{encode, Fits, Stands}
+use Rattle.encoding.specs.Encoding.{encode}
 use Rattle.encoding.proofs.Places.{stands_from}
 use Rattle.image.specs.Images.{bindings_words, used, Image}
 use Rattle.image.specs.Places.{At, Passed}
 use Rattle.image.specs.Reading.{reading}
 use Rattle.image.proofs.Whole.{laid}
 use Rattle.image.proofs.Exact.{reads_image}
-use Rattle.calls.specs.States.{Status, going, offering, ended, is_of}
-use Rattle.calls.specs.Entry.{allowed_length, on_length, of_status, entered}
+use Rattle.calls.specs.States.{Status, is_of}
+use Rattle.calls.specs.Entry.{allowed_length, of_status, entered}
 use Rattle.calls.proofs.Points.{suspends}
 use Rattle.calls.proofs.Showing.{shows_itself, term_stands}
-use Rattle.engine.specs.States.{status_number}
 use Rattle.engine.specs.Answers.{fault_in}
-use Rattle.engine.specs.Showing.{ShownAt, ValuePlace}
+use Rattle.engine.specs.Showing.{ShownAt}
 
 -- a fault says which answer it is of
 pub fault_known : {A : Type 0} (r : Result A Fault) (f : Fault) → Some f ≡ fault_in r → r ≡ Err f

@@ -1,8 +1,8 @@
 -- What the calls answer, as the code has it.
-use Rattle.std.specs.Prelude.{ℕ, List, Some, None, Ok, Err, Option, Result}
+use Rattle.std.specs.Prelude.{ℕ, Some, None, Ok, Err, Option, Result}
 use Rattle.faults.specs.declared.Fault.{Fault}
 use Rattle.calls.specs.States.{Status}
-use Rattle.calls.specs.Results.{RunOutcome, Part}
+use Rattle.calls.specs.Results.{Part}
 use Rattle.engine.specs.declared.states.Going.{Going}
 use Rattle.engine.specs.declared.states.Offering.{Offering}
 use Rattle.engine.specs.declared.states.State.{State}

@@ -1,5 +1,5 @@
 -- What the code's tests before a call say.
-use Rattle.std.specs.Prelude.{◌≡◌, ℕ, ◌^◌, ◌≤◌, List, length, IfNone, Ok, Err, Option, Result}
+use Rattle.std.specs.Prelude.{◌≡◌, ℕ, ◌^◌, ◌≤◌, List, IfNone, Ok, Option}
 use Rattle.faults.specs.declared.Fault.{Fault}
 use Rattle.image.specs.Reading.{reading}
 use Rattle.calls.specs.States.{Status}

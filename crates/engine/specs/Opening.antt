@@ -4,7 +4,7 @@ use Rattle.std.specs.Borrow.{Bor}
 use Rattle.faults.specs.declared.Fault.{Fault}
 use Rattle.calculus.specs.Terms.{Term}
 use Rattle.encoding.specs.Encoding.{encode, Fits}
-use Rattle.calls.specs.Results.{CallOutcome, on_room, open_from}
+use Rattle.calls.specs.Results.{on_room, open_from}
 use Rattle.engine.specs.declared.states.State.{State}
 use Rattle.engine.specs.Answers.{opened}
 

@@ -7,7 +7,7 @@ use Rattle.calculus.specs.Views.{view}
 use Rattle.encoding.specs.Encoding.{encode, Stands}
 use Rattle.image.specs.Images.{Image}
 use Rattle.calls.specs.States.{Status, going, offering, ended, is_of}
-use Rattle.calls.specs.Results.{Part, shown_of, show_answer}
+use Rattle.calls.specs.Results.{shown_of, show_answer}
 use Rattle.engine.specs.declared.answers.Shown.{Shown}
 use Rattle.engine.specs.States.{status_number}
 use Rattle.engine.specs.Answers.{shown}

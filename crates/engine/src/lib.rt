@@ -1,4 +1,6 @@
 // The engine: a program is admitted and opened; the run that it starts is run, shown and taken.
+#![tactic(auto)]
+
 pub mod answers;
 mod entry;
 mod guard;

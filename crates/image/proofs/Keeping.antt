@@ -1,5 +1,5 @@
 -- Steps and takes keep images.
-use Rattle.std.proofs.Common.{◌≡◌, ℕ, zero, suc, ◌+◌, ◌-◌, ◌<◌, ◌≤◌, Bool, true, false, cond, ltb, List, [], ◌∷◌, ◌++◌, length, replicate, Some, None, Ok, Err, Option, Result, sym, refl, ap, ◌∙◌, subst, arith, length-append}
+use Rattle.std.proofs.Common.{◌≡◌, ℕ, zero, suc, ◌-◌, ◌≤◌, Bool, true, false, cond, ltb, List, length, replicate, Some, None, Ok, Err, Option, Result, sym, refl, ap, subst, arith, length-append}
 use lib.ListN.{length-replicate}
 use Rattle.std.proofs.lemmas.Bool.{ltb-false}
 use Rattle.faults.specs.declared.Fault.{Fault}
@@ -11,7 +11,7 @@ use Rattle.calculus.specs.Next.{next}
 use Rattle.calculus.proofs.Agreement.{agrees}
 use Rattle.calculus.proofs.Configured.{keeps_configured, take_configured}
 use Rattle.encoding.specs.Encoding.{encode}
-use Rattle.image.specs.Images.{most_bindings, bindings_words, words_of, used, head_of, image_of, Encodable, FitsLength, Image}
+use Rattle.image.specs.Images.{most_bindings, bindings_words, words_of, used, image_of, Encodable, FitsLength, Image}
 use Rattle.image.specs.Stepping.{if_it_fits, step_result, step_in, rests, Stop, stop_at, one_more, steps_in}
 use Rattle.image.proofs.FitsKept.{fits_kept}
 

@@ -1,12 +1,12 @@
 -- Where terms and bindings stand among the words of an image.
-use Rattle.std.specs.Prelude.{◌≡◌, ℕ, suc, ◌+◌, ◌-◌, List, [], ◌∷◌, ◌++◌, length, drop, replicate}
+use Rattle.std.specs.Prelude.{◌≡◌, ℕ, suc, ◌+◌, ◌-◌, List, ◌++◌, length, drop, replicate}
 use Rattle.std.specs.List.{between}
 use Rattle.calculus.specs.Lists.{put}
 use Rattle.calculus.specs.Terms.{Term}
 use Rattle.calculus.specs.Parts.{size}
 use Rattle.calculus.specs.Configurations.{Binding, empty, ready, Configuration, Formed}
 use Rattle.encoding.specs.Encoding.{encode, Fits}
-use Rattle.image.specs.Images.{binding_words, bindings_words, words_of, used, BindingFits}
+use Rattle.image.specs.Images.{binding_words, bindings_words, used, BindingFits}
 
 -- the term t stands at place i, before the words `rest`
 pub record At (t : Term) (rest : List ℕ) (i : ℕ) (ws : List ℕ) : Type 0 where

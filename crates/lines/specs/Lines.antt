@@ -1,5 +1,5 @@
 -- The lines of a step on the words of an image.
-use Rattle.std.specs.Prelude.{◌≡◌, ℕ, suc, ◌+◌, ◌-◌, List, [], ◌∷◌, ◌++◌, length, drop, replicate, Some, None, Option, MatchOption}
+use Rattle.std.specs.Prelude.{◌≡◌, ℕ, ◌+◌, ◌-◌, List, ◌++◌, length, drop, replicate, Some, None, Option, MatchOption}
 use Rattle.std.specs.List.{between}
 use Rattle.calculus.specs.Terms.{Term}
 use Rattle.calculus.specs.Parts.{size}

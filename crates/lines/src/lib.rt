@@ -1,4 +1,6 @@
 // The lines of a step on an image: each writes the words of the successor into the spare from word 1 on.
+#![tactic(auto)]
+
 pub mod binding_lines;
 pub mod making;
 pub mod operating;

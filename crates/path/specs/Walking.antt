@@ -1,5 +1,5 @@
 -- Where the next step happens, seen from the words of a term.
-use Rattle.std.specs.Prelude.{ℕ, zero, suc, ◌+◌, ◌/◌, ◌^◌, cond, List, [], ◌∷◌, Some, None, Option, ◌==◌, slice_index}
+use Rattle.std.specs.Prelude.{ℕ, zero, suc, ◌+◌, cond, List, [], ◌∷◌, Some, None, Option, ◌==◌, slice_index}
 use Rattle.encoding.specs.Scanning.{arity_of}
 use Rattle.image.specs.Reading.{kind_at, value_kind}
 

@@ -1,4 +1,6 @@
 // The path to the next step, on the words of a term.
+#![tactic(auto)]
+
 pub mod kinds;
 pub mod pause;
 pub mod place;

@@ -1,4 +1,4 @@
-use Rattle.std.proofs.Common.{◌≡◌, ◌<◌, ◌≤◌, length, sym, ap, ◌∙◌, arith}
+use Rattle.std.proofs.Common.{sym, ◌∙◌, arith}
 use Rattle.console.proofs.Numbers.{one_more, no_digit, large_digit, too_large, at_end}
 use Rattle.console.proofs.digits.number_in.Goals as goal
 

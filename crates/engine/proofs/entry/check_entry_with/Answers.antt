@@ -1,4 +1,4 @@
-use Rattle.std.proofs.Common.{◌≡◌, length, sym, ap, ◌∙◌}
+use Rattle.std.proofs.Common.{length, sym, ap, ◌∙◌}
 use Rattle.image.specs.Reading.{reading}
 use Rattle.calls.specs.Entry.{of_status}
 use Rattle.engine.specs.Answers.{fault_in}

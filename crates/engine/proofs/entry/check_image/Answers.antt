@@ -1,5 +1,5 @@
-use Rattle.std.proofs.Common.{◌≡◌, Some, sym, ap, ◌∙◌}
-use Rattle.engine.proofs.Entries.{no_image, other_state, that_state}
+use Rattle.std.proofs.Common.{Some, sym, ap, ◌∙◌}
+use Rattle.engine.proofs.Entries.{other_state, that_state}
 use Rattle.engine.proofs.entry.check_image.Goals as goal
 
 pub returns-then-number_at-wanted : goal.returns-then-number_at-wanted

@@ -1,4 +1,4 @@
-use Rattle.std.proofs.Common.{◌≡◌, length, sym, refl, ap, ◌∙◌, rules}
+use Rattle.std.proofs.Common.{length, sym, ap, ◌∙◌, rules}
 use Rattle.programs.specs.Reading.{Split, split}
 use Rattle.engine.proofs.Admitted.{accepted_with, words_admitted}
 use Rattle.engine.proofs.opening.admitted_words.Goals as goal

@@ -1,4 +1,4 @@
-use Rattle.std.proofs.Common.{◌≡◌, ◌-◌, ◌<◌, length, set, ◌∙◌, arith}
+use Rattle.std.proofs.Common.{◌-◌, length, set, arith}
 use borrow.Rule.Slice.PartMut.{put_mid}
 use Rattle.writing.proofs.TakingOver as taking
 use Rattle.engine.proofs.Opened.{opens}

@@ -1,11 +1,8 @@
-use Rattle.std.proofs.Common.{◌≡◌, length, Ok, sym, refl, ap, ◌∙◌, arith}
+use Rattle.std.proofs.Common.{Ok, sym, ap, ◌∙◌, arith}
 use Rattle.encoding.proofs.Places.{stands_same, stands_within}
-use Rattle.calls.specs.Results.{Part, show_from}
+use Rattle.calls.specs.Results.{show_from}
 use Rattle.engine.proofs.ShownParts.{fault_known, entry_known}
 use Rattle.calls.specs.Entry.{entered}
-use Rattle.calls.specs.States.{Status, going}
-use Rattle.engine.specs.States.{status_number}
-use Rattle.engine.specs.Showing.{ShownAt}
 use Rattle.engine.proofs.showing.show_part.Goals as goal
 
 pub returns-in-Some : goal.returns-in-Some

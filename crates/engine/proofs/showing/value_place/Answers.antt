@@ -1,6 +1,4 @@
-use Rattle.std.proofs.Common.{◌≡◌, ℕ, true, sym, refl, ◌∙◌, arith}
-use Rattle.calculus.specs.Configurations.{Configuration}
-use Rattle.image.specs.Images.{Image}
+use Rattle.std.proofs.Common.{◌≡◌, true, sym, refl, ◌∙◌, arith}
 use Rattle.calls.specs.States.{Status, going, offering, ended, is_of}
 use Rattle.engine.specs.States.{status_number}
 use Rattle.engine.specs.Showing.{ShownAt}

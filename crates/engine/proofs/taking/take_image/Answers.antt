@@ -1,4 +1,4 @@
-use Rattle.std.proofs.Common.{◌≡◌, length, sym, refl, ap, ◌∙◌, rules}
+use Rattle.std.proofs.Common.{length, sym, refl, ap, rules}
 use Rattle.calls.specs.States.{offering}
 use Rattle.calls.specs.Results.{CallOutcome}
 use Rattle.engine.specs.Answers.{taken}

@@ -5,7 +5,7 @@
 
 A transcript has programs that are well typed by construction, the same with words changed, and foreign images, each with random calls.
 Prints the lines that differ, if there are any, and how often each kind of answer came; ends with 1 where a line differs.
-The console must have been built: rt check console
+The console must have been built: (cd crates/console && rt run)
 """
 
 import collections
@@ -17,7 +17,7 @@ import sys
 import model
 from model import word
 
-CONSOLE = os.path.join(os.path.dirname(os.path.abspath(__file__)), '..', 'target', 'bin', 'console')
+CONSOLE = os.path.join(os.path.dirname(os.path.abspath(__file__)), '..', 'crates', 'console', 'out', 'console')
 YIELD_FIVE = [0xB0000804, 0x80000000, 0x88000000, 0x90000000, 0x90000001, 0x28000000, 0x50000005]
 
 

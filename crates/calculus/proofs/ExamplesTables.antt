@@ -8,8 +8,8 @@ use Rattle.calculus.specs.Rows.{Row, unit_type, bottom_type, base_type, function
 use Rattle.calculus.proofs.Tables.{well_formed}
 
 -- The rows after the bases, by name. An arrow goes from argument to result; a wave from argument to yield type to result,
--- and for an instance from yield type to result. The handlers of-count, of-truth and of-unit yield functions of Unit and give
--- functions of counts; the silent ones do not yield, the short ones give Unit. Those with to- are functions from Unit.
+-- and for an instance from yield type to result. The handlers of_count, of_truth and of_unit yield functions of Unit and give
+-- functions of counts; the silent ones do not yield, the short ones give Unit. Those with to_ are functions from Unit.
 abbrev pub unit→unit : ℕ
 unit→unit = 4
 

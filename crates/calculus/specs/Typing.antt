@@ -42,7 +42,7 @@ pub data Typed (S : Setting) (Σ : List ℕ) : Scope → Term → ℕ → ℕ �
   t_abstraction :
       {Γ : Scope} {x r A B : ℕ} {b : Term} → Is S r (function_type A B) → Typed S Σ (bind x A Γ) b B bottom_row →
       Typed S Σ Γ (abstraction x r b) r bottom_row
-  -- a coroutine's body yields at its row's yield type, or ⊥, by t-any-yield
+  -- a coroutine's body yields at its row's yield type, or ⊥, by t_any_yield
   t_coroutine :
       {Γ : Scope} {x r A W B : ℕ} {b : Term} → Is S r (coroutine_type A W B) → Typed S Σ (bind x A Γ) b B W →
       Typed S Σ Γ (coroutine x r b) r bottom_row
@@ -50,7 +50,7 @@ pub data Typed (S : Setting) (Σ : List ℕ) : Scope → Term → ℕ → ℕ �
   t_apply :
       {Γ : Scope} {f a : Term} {r A B Y : ℕ} → Is S r (function_type A B) → Typed S Σ Γ f r Y → Typed S Σ Γ a A Y →
       Typed S Σ Γ (application f a) B Y
-  -- each part yields at the coroutine's yield type, or ⊥, by t-any-yield; the coroutine's yield type is that of the whole
+  -- each part yields at the coroutine's yield type, or ⊥, by t_any_yield; the coroutine's yield type is that of the whole
   t_apply_coroutine :
       {Γ : Scope} {f a : Term} {r A B Y : ℕ} → Is S r (coroutine_type A Y B) → Typed S Σ Γ f r Y → Typed S Σ Γ a A Y →
       Typed S Σ Γ (application f a) B Y

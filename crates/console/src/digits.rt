@@ -1,10 +1,10 @@
 // Numbers as they are written.
 ghost use Rattle.std.specs.Prelude.{◌≡◌};
-ghost use Rattle.console.specs.Digits.{digit as digit-of, number_in, hex_word, decimal as decimal-of};
+ghost use Rattle.console.specs.Digits.{digit as digit_of, number_in, hex_word, decimal as decimal_of};
 
 // The value of a digit of any base up to 16.
 fn digit_value(byte: u8) -> Option<u8>
-    ensures { result ≡ digit-of byte }
+    ensures { result ≡ digit_of byte }
 {
     match byte {
         b'0'..=b'9' => Some(byte - b'0'),
@@ -44,7 +44,7 @@ pub fn hex_word(text: &[u8]) -> Option<u32>
 
 // A number: decimal digits, at most 65,535.
 pub fn decimal(text: &[u8]) -> Option<u16>
-    ensures { result ≡ decimal-of text.now }
+    ensures { result ≡ decimal_of text.now }
 {
     if text.is_empty() {
         return None;

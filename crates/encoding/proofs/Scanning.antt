@@ -9,13 +9,13 @@ use Rattle.encoding.specs.Scanning.{part_counts, arity_of, is_term_word, scan}
 use Rattle.encoding.proofs.Parts.{encode_is, size_is, by_parts, fits_parts}
 use Rattle.encoding.proofs.FirstWord.{first_of}
 
-get_d_keeps : (P : ℕ → Type 0) (xs : List ℕ) (k : ℕ) → P 0 → AllByRecursion P xs → P (get_or xs k 0)
-get_d_keeps P [] k z a = z
-get_d_keeps P (x ∷ xs) zero z a = a.0
-get_d_keeps P (x ∷ xs) (suc k) z a = get_d_keeps P xs k z a.1
+get_or_keeps : (P : ℕ → Type 0) (xs : List ℕ) (k : ℕ) → P 0 → AllByRecursion P xs → P (get_or xs k 0)
+get_or_keeps P [] k z a = z
+get_or_keeps P (x ∷ xs) zero z a = a.0
+get_or_keeps P (x ∷ xs) (suc k) z a = get_or_keeps P xs k z a.1
 
 pub arity_le : (w : ℕ) → arity_of w ≤ 4
-arity_le w = get_d_keeps (λ n. n ≤ 4) part_counts (w / 2 ^ 27) (omega arith) (omega arith)
+arity_le w = get_or_keeps (λ n. n ≤ 4) part_counts (w / 2 ^ 27) (omega arith) (omega arith)
 
 scan_end : (n i : ℕ) → 0 < n → scan n i [] ≡ None
 scan_end zero i h = absurd (omega arith)

@@ -1,6 +1,6 @@
+// Examples of what the layers do, as tests.
 #![tactic(auto)]
 
-// Examples of what the layers do, as tests.
 #[cfg(test)]
 mod admission_tests;
 #[cfg(test)]

@@ -1,5 +1,5 @@
 // From a word to its number.
-ghost use Rattle.std.specs.Prelude.{◌≡◌, ℕ, ◌+◌, ◌*◌, ◌^◌, ◌&&◌, ltb, if◌then◌else◌, Some, None, nat_lt};
+ghost use Rattle.std.specs.Prelude.{◌≡◌, ℕ, ◌+◌, ◌*◌, ◌^◌, ◌&&◌, if◌then◌else◌, Some, None, nat_lt};
 ghost use Rattle.words.specs.Kinds.{number_of};
 ghost use Rattle.layout.specs.Layout.{built};
 
@@ -58,7 +58,7 @@ fn bare(kind: Kind) -> Option<u32>
 }
 
 fn base_type(base: u8) -> Option<u32>
-    ensures { result ≡ (if ltb base (2 ^ 3) then Some (18 * 2 ^ 27 + base) else None) }
+    ensures { result ≡ (if nat_lt base (2 ^ 3) then Some (18 * 2 ^ 27 + base) else None) }
 {
     if base < 8 {
         Some(18 * KIND + base as u32)
@@ -69,7 +69,7 @@ fn base_type(base: u8) -> Option<u32>
 
 // A word with a name or a label and a row.
 fn named(kind: Kind, name: u16, row: u16) -> Option<u32>
-    ensures { result ≡ (if ltb name (2 ^ 12) && nat_lt row (2 ^ 9) then Some (number_of kind * 2 ^ 27 + (name + row * 2 ^ 12)) else None) }
+    ensures { result ≡ (if nat_lt name (2 ^ 12) && nat_lt row (2 ^ 9) then Some (number_of kind * 2 ^ 27 + (name + row * 2 ^ 12)) else None) }
 {
     if name < 0x1000 && row < 0x200 {
         Some(kind.number() as u32 * KIND + row as u32 * 0x1000 + name as u32)
@@ -80,7 +80,7 @@ fn named(kind: Kind, name: u16, row: u16) -> Option<u32>
 
 // A type row with up to three references.
 fn references(kind: Kind, first: u16, second: u16, third: u16) -> Option<u32>
-    ensures { result ≡ (if ltb first (2 ^ 9) && (nat_lt second (2 ^ 9) && nat_lt third (2 ^ 9)) then Some (number_of kind * 2 ^ 27 + (first + (second * 2 ^ 9 + third * 2 ^ 18))) else None) }
+    ensures { result ≡ (if nat_lt first (2 ^ 9) && (nat_lt second (2 ^ 9) && nat_lt third (2 ^ 9)) then Some (number_of kind * 2 ^ 27 + (first + (second * 2 ^ 9 + third * 2 ^ 18))) else None) }
 {
     if first < 0x200 && second < 0x200 && third < 0x200 {
         Some(
@@ -95,7 +95,7 @@ fn references(kind: Kind, first: u16, second: u16, third: u16) -> Option<u32>
 }
 
 fn atom(base: u8, payload: u32) -> Option<u32>
-    ensures { result ≡ (if ltb payload (2 ^ 24) && nat_lt base (2 ^ 3) then Some (10 * 2 ^ 27 + (payload + base * 2 ^ 24)) else None) }
+    ensures { result ≡ (if nat_lt payload (2 ^ 24) && nat_lt base (2 ^ 3) then Some (10 * 2 ^ 27 + (payload + base * 2 ^ 24)) else None) }
 {
     if payload < 0x100_0000 && base < 8 {
         Some(10 * KIND + base as u32 * 0x100_0000 + payload)
@@ -105,7 +105,7 @@ fn atom(base: u8, payload: u32) -> Option<u32>
 }
 
 fn program_head(rows: u16, term_words: u16) -> Option<u32>
-    ensures { result ≡ (if ltb rows (2 ^ 10) && ltb term_words (2 ^ 13) then Some (22 * 2 ^ 27 + (rows + term_words * 2 ^ 10)) else None) }
+    ensures { result ≡ (if nat_lt rows (2 ^ 10) && nat_lt term_words (2 ^ 13) then Some (22 * 2 ^ 27 + (rows + term_words * 2 ^ 10)) else None) }
 {
     if rows < 0x400 && term_words < 0x2000 {
         Some(22 * KIND + term_words as u32 * 0x400 + rows as u32)
@@ -115,7 +115,7 @@ fn program_head(rows: u16, term_words: u16) -> Option<u32>
 }
 
 fn image_head(used: u16, bindings: u16) -> Option<u32>
-    ensures { result ≡ (if ltb used (2 ^ 15) && nat_lt bindings (2 ^ 12) then Some (23 * 2 ^ 27 + (used + bindings * 2 ^ 15)) else None) }
+    ensures { result ≡ (if nat_lt used (2 ^ 15) && nat_lt bindings (2 ^ 12) then Some (23 * 2 ^ 27 + (used + bindings * 2 ^ 15)) else None) }
 {
     if used < 0x8000 && bindings < 0x1000 {
         Some(23 * KIND + bindings as u32 * 0x8000 + used as u32)

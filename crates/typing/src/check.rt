@@ -6,7 +6,7 @@ ghost use Rattle.encoding.specs.Encoding.{Stands};
 ghost use Rattle.encoding.specs.Depths.{depth};
 ghost use Rattle.judging.specs.Verdicts.{verdict};
 ghost use Rattle.rules.specs.Rules.{refused};
-ghost use Rattle.typing.specs.Machine.{nobody, fresh as fresh-frame, rule_of, Settles, settle as settling, run};
+ghost use Rattle.typing.specs.Machine.{nobody, fresh as fresh_frame, rule_of, Settles, settle as settling, run};
 
 use crate::frames::{deliver, fresh, full};
 use crate::model::{Frame, Scoped};
@@ -107,7 +107,7 @@ pub fn check<Q: QuantitySet>(
 ) -> Result<Judged, Fault>
     ensures answer { result ≡ run Q.meaning rows.now (length scopes.old) (length judgements.old) at [] [] (drop at words.now) }
     ensures scopes { scopes.new ≡ replicate (length scopes.old) nobody }
-    ensures judgements { judgements.new ≡ replicate (length judgements.old) (fresh-frame 0 0) }
+    ensures judgements { judgements.new ≡ replicate (length judgements.old) (fresh_frame 0 0) }
 {
     let mut scope = Stack::over(scopes);
     let mut frames = Stack::over(judgements);
@@ -139,7 +139,7 @@ pub fn check_term<Q: QuantitySet>(
 ) -> Result<Judged, Fault>
     ensures answer { (t : Term) → Stands t words.now at → depth t ≤ 256 → 256 ≤ length scopes.old → 256 ≤ length judgements.old → result ≡ verdict Q.meaning rows.now [] at t }
     ensures scopes { scopes.new ≡ replicate (length scopes.old) nobody }
-    ensures judgements { judgements.new ≡ replicate (length judgements.old) (fresh-frame 0 0) }
+    ensures judgements { judgements.new ≡ replicate (length judgements.old) (fresh_frame 0 0) }
 {
     check(set, rows, words, at, scopes, judgements)
 }

@@ -1,7 +1,7 @@
 // The unfinished judgements.
 ghost use Rattle.std.specs.Prelude.{◌≡◌, length};
 ghost use Rattle.stack.specs.Entries.{entries};
-ghost use Rattle.typing.specs.Machine.{fresh as fresh-frame, added, is_full, several, delivered};
+ghost use Rattle.typing.specs.Machine.{fresh as fresh_frame, added, is_full, several, delivered};
 
 use crate::model::Frame;
 use encoding::first::arity;
@@ -10,7 +10,7 @@ use stack::{Entry, Stack};
 
 // A word whose parts are all to come.
 pub fn fresh(word: u32, place: usize) -> Frame
-    ensures { result ≡ fresh-frame word place }
+    ensures { result ≡ fresh_frame word place }
 {
     Frame {
         word,

@@ -11,5 +11,6 @@ use numbers::FaultNumber;
 #[derive(Clone, Copy, PartialEq, Eq, Debug)]
 pub struct Fault {
     number: FaultNumber,
+    // Kept: 0 and no Option, since the place of a fault without a word is 0 by the rule of the engine.
     place: usize,
 }

@@ -5,6 +5,7 @@ ghost use Rattle.faults.specs.Faults.{fault_of};
 
 use crate::Fault;
 use crate::numbers::{FaultNumber, Layer};
+use std::error::Error;
 use std::fmt;
 
 impl Fault {
@@ -40,11 +41,12 @@ impl Fault {
 
 impl fmt::Display for Fault {
     fn fmt<W: fmt::Write>(&self, f: &mut fmt::Formatter<W>) -> fmt::Result {
-        let fault = *self;
-        let layer = fault.layer();
-        let number = fault.number().number();
-        let place = fault.place();
-        let reason = fault.number().reason();
+        let layer = self.layer();
+        let reason = self.number;
+        let number = u8::from(reason);
+        let place = self.place;
         write!(f, "{layer}: fault {number} at place {place}: {reason}")
     }
 }
+
+impl Error for Fault {}

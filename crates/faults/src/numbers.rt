@@ -56,28 +56,33 @@ pub enum FaultNumber {
     NoRule = 18,
 }
 
-impl FaultNumber {
-    // The fault's number.
-    pub fn number(self) -> u8
-        ensures { result ≡ number_of self }
-    {
-        self as u8
-    }
+impl From<FaultNumber> for u8 {
+    ghost from_gives = { λ fault number. number ≡ number_of fault };
 
+    fn from(fault: FaultNumber) -> u8 {
+        fault as u8
+    }
+}
+
+impl FaultNumber {
     // The layer that answers faults of this number.
     pub fn layer(self) -> Layer
         ensures { result ≡ layer_of self }
     {
-        match self.number() {
-            4..=9 => Layer::Form,
-            10..=13 => Layer::Check,
+        match self {
+            FaultNumber::Head | FaultNumber::Row | FaultNumber::RowTwice => Layer::Form,
+            FaultNumber::TermWord | FaultNumber::TermEnd | FaultNumber::Depth => Layer::Form,
+            FaultNumber::Scope | FaultNumber::Quantity => Layer::Check,
+            FaultNumber::Types | FaultNumber::YieldType => Layer::Check,
             _ => Layer::Engine,
         }
     }
+}
 
-    // What is wrong, in words.
-    pub(crate) fn reason(self) -> &'static str {
-        match self {
+// What is wrong, in words.
+impl fmt::Display for FaultNumber {
+    fn fmt<W: fmt::Write>(&self, f: &mut fmt::Formatter<W>) -> fmt::Result {
+        f.write_str(match *self {
             FaultNumber::WorkShort => "a work list has under 256 entries",
             FaultNumber::ImageLength => "the image's length is outside 2 to 16384 words",
             FaultNumber::SpareLength => "spare and image differ in length",
@@ -97,16 +102,16 @@ impl FaultNumber {
             FaultNumber::NotImage => "the words are not an image",
             FaultNumber::OtherState => "the image's term is of another state",
             FaultNumber::NoRule => "no rule applies",
-        }
+        })
     }
 }
 
 impl fmt::Display for Layer {
     fn fmt<W: fmt::Write>(&self, f: &mut fmt::Formatter<W>) -> fmt::Result {
-        match *self {
-            Layer::Form => f.write_str("form reader"),
-            Layer::Check => f.write_str("check"),
-            Layer::Engine => f.write_str("engine"),
-        }
+        f.write_str(match *self {
+            Layer::Form => "form reader",
+            Layer::Check => "check",
+            Layer::Engine => "engine",
+        })
     }
 }

@@ -1,11 +1,12 @@
 -- Building and reading answer exactly by what a number stands for.
-use Rattle.std.proofs.Common.{◌≡◌, ℕ, ◌+◌, ◌*◌, ◌/◌, ◌%◌, ◌^◌, ◌<◌, Bool, true, false, cond, ◌&&◌, eqb, ltb, ◌↔◌, Some, None, Option, sym, refl, ap, ◌∙◌, arith}
+use Rattle.std.proofs.Common.{◌≡◌, ℕ, ◌+◌, ◌*◌, ◌/◌, ◌%◌, ◌^◌, ◌<◌, Bool, true, false, cond, ◌&&◌, eqb, ltb, ◌↔◌, Some, None, Option, Ok, ok_or, sym, refl, ap, ◌∙◌, arith}
 use Rattle.std.proofs.lemmas.Bool.{eqb-true, eq-eqb, ne_eqb, and_parts, ltb-true}
 use Rattle.words.specs.declared.kinds.Kind.{Kind}
 use Rattle.words.specs.declared.kinds.Kind.TheVariants as Kinds
 use Rattle.layout.specs.declared.Word.{Word}
 use Rattle.layout.specs.declared.Word.TheVariants as W
 use Rattle.words.specs.Kinds.{number_of, kind_at}
+use Rattle.layout.specs.Conversions.{Decodes}
 use Rattle.layout.specs.Layout.{kind_of, fields_of, fit, word_of, Reads, built, word_at, same, read_at, read_word}
 
 -- a kind is found again by its number
@@ -177,5 +178,15 @@ so_reads_at w x (Some k) e = by_test (same (built (word_at k w)) w) refl e
 pub read_exact : (w : ℕ) (x : Word) → Reads w x ↔ (read_word w ≡ Some x)
 read_exact w x = (reads_so w x, so_reads_at w x (kind_at (w / 2 ^ 27)))
 
-pub built_exact : (x : Word) (w : ℕ) → Reads w x ↔ (built x ≡ Some w)
-built_exact x w = (built_so w x, so_built w x)
+-- what is found is the value of the result
+found_as_ok : {A E : Type 0} (o : Option A) (e : E) (x : A) → (o ≡ Some x) ↔ (ok_or o e ≡ Ok x)
+found_as_ok (Some y) e x = (λ p. cc, λ p. cc)
+found_as_ok None e x = (λ p. cc, λ p. cc)
+
+pub decodes : (w : ℕ) → Decodes w (ok_or (read_word w) (record { number = w }))
+decodes w =
+    record {
+      value = refl;
+      exact = λ x. let e = found_as_ok (read_word w) (record { number = w }) x in
+          (λ r. e.0 ((read_exact w x).0 r), λ p. (read_exact w x).1 (e.1 p));
+    }

@@ -1,14 +1,17 @@
 // Words by their kind and fields: a word is built as a number of 32 bits, and read back. Bits without a use are zero.
 #![tactic(auto)]
 
-ghost use Rattle.std.specs.Prelude.{◌≡◌, ℕ, ◌↔◌, Some};
-ghost use Rattle.layout.specs.Layout.{kind_of, parts_of, built, read_word, Reads};
+ghost use Rattle.std.specs.Prelude.{◌≡◌};
+ghost use Rattle.layout.specs.Layout.{kind_of, parts_of};
+ghost use Rattle.layout.specs.Conversions.{Builds, Decodes};
 
 mod assembling;
 mod parsing;
 
 use assembling::assemble;
 use parsing::parse;
+use std::error::Error;
+use std::fmt;
 use words::kinds::Kind;
 
 // A word, by its kind and its fields.
@@ -119,31 +122,58 @@ impl Word {
         ensures { result ≡ parts_of self }
     {
         match self {
-            Word::Abstraction { .. }
-            | Word::Coroutine { .. }
-            | Word::Yield
-            | Word::Snapshot
-            | Word::Fix => 1,
-            Word::Application | Word::Start { .. } | Word::Operation { .. } | Word::Suspension => 2,
-            Word::Resume | Word::Resumption { .. } => 4,
             Word::Binding { ready, .. } => u8::from(ready),
-            _ => 0,
+            other => other.kind().parts(),
         }
     }
+}
 
-    // The word as a number; nothing where a field does not fit its bits.
-    pub fn build(self) -> Option<u32>
-        ensures value { result ≡ built self }
-        ensures exact { (w : ℕ) → Reads w self ↔ (result ≡ Some w) }
-    {
-        assemble(self)
+// A word with a field that does not fit its bits.
+#[derive(Clone, Copy, PartialEq, Eq, Debug)]
+pub struct WideField {
+    pub word: Word,
+}
+
+impl fmt::Display for WideField {
+    fn fmt<W: fmt::Write>(&self, f: &mut fmt::Formatter<W>) -> fmt::Result {
+        write!(f, "a field does not fit its bits in {:?}", self.word)
     }
+}
 
-    // The word that a number stands for: of one of the kinds, with no bit set that has no use in it.
-    pub fn read(word: u32) -> Option<Word>
-        ensures value { result ≡ read_word word }
-        ensures exact { (x : Word) → Reads word x ↔ (result ≡ Some x) }
-    {
-        parse(word)
+impl Error for WideField {}
+
+// A number that stands for no word.
+#[derive(Clone, Copy, PartialEq, Eq, Debug)]
+pub struct NoWord {
+    pub number: u32,
+}
+
+impl fmt::Display for NoWord {
+    fn fmt<W: fmt::Write>(&self, f: &mut fmt::Formatter<W>) -> fmt::Result {
+        write!(f, "{:08X} is no word", self.number)
+    }
+}
+
+impl Error for NoWord {}
+
+// The word as a number; an error where a field does not fit its bits.
+impl TryFrom<Word> for u32 {
+    type Error = WideField;
+
+    ghost try_from_gives = { Builds };
+
+    fn try_from(word: Word) -> Result<u32, WideField> {
+        assemble(word).ok_or(WideField { word })
+    }
+}
+
+// The word that a number stands for: of one of the kinds, with no bit set that has no use in it.
+impl TryFrom<u32> for Word {
+    type Error = NoWord;
+
+    ghost try_from_gives = { Decodes };
+
+    fn try_from(number: u32) -> Result<Word, NoWord> {
+        parse(number).ok_or(NoWord { number })
     }
 }

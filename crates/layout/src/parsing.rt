@@ -1,12 +1,12 @@
 // From a number to the word that it stands for.
 ghost use Rattle.std.specs.Prelude.{◌≡◌};
-ghost use Rattle.layout.specs.Layout.{word_at, same, read_word};
+ghost use Rattle.layout.specs.Layout.{word_at, read_word};
 
 use crate::Word;
 use crate::assembling::assemble;
 use words::fields::{
-    base, bindings, first, kind_number, label, name, operation, payload, ready, row, rows, second,
-    term_words, third, type_base, used,
+    base, bindings, first, label, name, operation, payload, ready, row, rows, second, term_words,
+    third, type_base, used,
 };
 use words::kinds::Kind;
 
@@ -14,24 +14,11 @@ use words::kinds::Kind;
 pub fn parse(word: u32) -> Option<Word>
     ensures { result ≡ read_word word }
 {
-    let Some(kind) = Kind::of_number(kind_number(word)) else {
-        return None;
-    };
-    let found = word_at(kind, word);
-    if is_same(assemble(found), word) {
+    let found = word_at(Kind::of_word(word)?, word);
+    if assemble(found).is_some_and(|number| number == word) {
         Some(found)
     } else {
         None
-    }
-}
-
-// Whether a number was built, and it is this one.
-fn is_same(built: Option<u32>, word: u32) -> bool
-    ensures { result ≡ same built word }
-{
-    match built {
-        Some(number) => number == word,
-        None => false,
     }
 }
 

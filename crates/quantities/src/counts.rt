@@ -8,6 +8,7 @@ use super::{QuantitySet, Signature};
 #[derive(Clone, Copy)]
 pub struct Counts;
 
+// Kept: operations and bases by the numbers that words hold; an enum would be made of the number and taken apart in the same line.
 impl QuantitySet for Counts {
     const K: u8 = 2;
 
@@ -50,7 +51,7 @@ impl QuantitySet for Counts {
 
     fn apply(&self, operation: u8, first: u32, second: u32) -> u32 {
         if operation == 3 {
-            return if first == 1 && second == 1 { 1 } else { 0 };
+            return u32::from(first == 1 && second == 1);
         }
         if first >= 65_536 || second >= 65_536 {
             return 0;
@@ -58,13 +59,14 @@ impl QuantitySet for Counts {
         match operation {
             0 => (first + second) % 65_536,
             1 => first.saturating_sub(second),
-            2 => if first >= second { 1 } else { 0 },
+            2 => u32::from(first >= second),
             _ => 0,
         }
     }
 }
 
 // The number of bases that the set states is 2.
+// Kept: a function for each set; one for every set needs a ghost member beside K, which each implementation would have to give.
 pub fn counts_bases() -> u8
     ensures { result ≡ 2 }
 {

@@ -11,6 +11,7 @@ const TRANSITIONS: [[u32; 4]; 4] = [[0, 1, 2, 3], [0, 1, 2, 3], [1, 1, 2, 3], [3
 #[derive(Clone, Copy)]
 pub struct Interlocks;
 
+// Kept: operations by the numbers that words hold, as in counts.
 impl QuantitySet for Interlocks {
     const K: u8 = 1;
 
@@ -50,6 +51,7 @@ impl QuantitySet for Interlocks {
 }
 
 // The number of bases that the set states is 1.
+// Kept: a function for each set; one for every set needs a ghost member beside K, which each implementation would have to give.
 pub fn interlocks_bases() -> u8
     ensures { result ≡ 1 }
 {

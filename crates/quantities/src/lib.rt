@@ -23,6 +23,7 @@ pub trait QuantitySet {
     ghost meaning: { Meaning };
 
     // How many base types the set has.
+    // Kept: no body here, though both sets answer by K; a body would have to prove K for every set, which asks more of an implementation.
     fn bases(&self) -> u8
         ensures { result ≡ meaning.bases };
 

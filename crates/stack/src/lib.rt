@@ -1,10 +1,14 @@
 // A stack over a lent slice, for any kind of entry. When it is dropped, all slots of the slice are blank.
 #![tactic(auto)]
 
-ghost use Rattle.std.specs.Prelude.{◌≡◌, ℕ, ◌+◌, ◌-◌, ◌<◌, ◌≤◌, true, false, List, [], ◌∷◌, length, take, replicate, if◌then◌else◌, MatchOption, nat_lt, slice_index_or};
-ghost use Rattle.stack.specs.Entries.{entries, renewed};
+ghost use Rattle.std.specs.Prelude.{◌≡◌, ℕ, ◌+◌, ◌-◌, ◌<◌, ◌≤◌, true, false, List, [], ◌∷◌, length, take, replicate, if◌then◌else◌, MatchOption, nat_lt, is_ok, Some, codes};
+ghost use Rattle.stack.specs.Entries.{entries, renewed, SameSlots};
+
+use std::error::Error;
+use std::fmt;
 
 // An entry of a stack; the blank one is what the slots hold between calls.
+// Kept: a trait beside `Default`, which promises a predicate and names no value that a clause could say of the slots.
 pub trait Entry: Copy {
     ghost blank: { Self };
 
@@ -25,20 +29,28 @@ impl Entry for u8 {
 pub fn clear<T: Entry>(slots: &mut [T])
     ensures { slots.new ≡ replicate (length slots.old) T.blank }
 {
+    // Kept: a `for`; tried as `fill`, which asks for a clone that cannot fail, and of a type parameter `Copy` does not say that.
     for slot in slots.iter_mut() {
         *slot = T::blank();
     }
 }
 
-// The entry in a slot.
-fn get<T: Copy>(slots: &[T], at: usize) -> T
-    requires { at < length slots.now }
-    ensures { result ≡ slice_index_or slots.now at result }
-{
-    slots[at]
+// There is no room for one more entry.
+#[derive(Clone, Copy, PartialEq, Eq, Debug)]
+pub struct Full;
+
+impl fmt::Display for Full {
+    ghost output = { λ s. Some (codes "the stack is full") };
+
+    fn fmt<W: fmt::Write>(&self, f: &mut fmt::Formatter<W>) -> fmt::Result {
+        f.write_str("the stack is full")
+    }
 }
 
+impl Error for Full {}
+
 // A stack: the first `len` slots hold its entries, the newest last.
+// Kept: a number beside lent slots, since there is no heap, and no view of the entries, since a clause has to name the slots that it blanks.
 pub struct Stack<'a, T: Entry> {
     slots: &'a mut [T],
     len: usize,
@@ -54,32 +66,27 @@ impl<'a, T: Entry> Stack<'a, T> {
         Stack { slots, len: 0 }
     }
 
-    // One entry more; false where there is no room, and then the stack is as it was.
-    pub fn push(&mut self, x: T) -> bool
-        ensures fits { result ≡ nat_lt (length (entries self.old.slots.now self.old.len)) (length self.old.slots.now) }
-        ensures all { entries self.new.slots.now self.new.len ≡ (if result then x ∷ entries self.old.slots.now self.old.len else entries self.old.slots.now self.old.len) }
-        ensures long { length self.new.slots.now ≡ length self.old.slots.now }
-        ensures same { self.new.slots.ghost_name ≡ self.old.slots.ghost_name }
+    // One entry more; where there is no room the stack is as it was.
+    pub fn push(&mut self, x: T) -> Result<(), Full>
+        ensures fits { is_ok result ≡ nat_lt (length (entries self.old.slots.now self.old.len)) (length self.old.slots.now) }
+        ensures all { entries self.new.slots.now self.new.len ≡ (if is_ok result then x ∷ entries self.old.slots.now self.old.len else entries self.old.slots.now self.old.len) }
+        ensures over { SameSlots self.old.slots self.new.slots }
     {
         if self.len >= self.slots.len() {
-            return false;
+            return Err(Full);
         }
         self.slots[self.len] = x;
         self.len += 1;
-        true
+        Ok(())
     }
 
     // Takes the newest entry off, if there is one.
     pub fn pop(&mut self) -> Option<T>
         ensures all { MatchOption result ((entries self.old.slots.now self.old.len ≡ []) × (entries self.new.slots.now self.new.len ≡ [])) (λ x. entries self.old.slots.now self.old.len ≡ x ∷ entries self.new.slots.now self.new.len) }
         ensures down { MatchOption result (self.new.len ≡ 0) (λ x. self.new.len + 1 ≡ self.old.len) }
-        ensures long { length self.new.slots.now ≡ length self.old.slots.now }
-        ensures same { self.new.slots.ghost_name ≡ self.old.slots.ghost_name }
+        ensures over { SameSlots self.old.slots self.new.slots }
     {
-        if self.len == 0 {
-            return None;
-        }
-        self.len -= 1;
+        self.len = self.len.checked_sub(1)?;
         Some(self.slots[self.len])
     }
 
@@ -87,8 +94,7 @@ impl<'a, T: Entry> Stack<'a, T> {
     pub fn set_top(&mut self, x: T)
         ensures all { entries self.new.slots.now self.new.len ≡ renewed x (entries self.old.slots.now self.old.len) }
         ensures len { self.new.len ≡ self.old.len }
-        ensures long { length self.new.slots.now ≡ length self.old.slots.now }
-        ensures same { self.new.slots.ghost_name ≡ self.old.slots.ghost_name }
+        ensures over { SameSlots self.old.slots self.new.slots }
     {
         if self.len > 0 {
             self.slots[self.len - 1] = x;
@@ -101,10 +107,8 @@ impl<'a, T: Entry> Stack<'a, T> {
     pub fn top(&self) -> Option<T>
         ensures { MatchOption result (entries self.now.slots.now self.now.len ≡ []) (λ x. entries self.now.slots.now self.now.len ≡ x ∷ entries self.now.slots.now (self.now.len - 1)) }
     {
-        if self.len == 0 {
-            return None;
-        }
-        Some(get(&*self.slots, self.len - 1))
+        let newest = self.len.checked_sub(1)?;
+        Some(self.slots[newest])
     }
 
     // How many entries there are.

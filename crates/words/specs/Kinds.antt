@@ -66,3 +66,30 @@ kinds =
 -- the kind with a number; there are none from 24 on
 abbrev pub kind_at : ℕ → Option Kind
 kind_at n = slice_index_or kinds n None
+
+-- how many terms follow a word of a kind as its parts, as far as the kind says
+abbrev pub parts_of : Kind → ℕ
+parts_of unit = 0
+parts_of Variable = 0
+parts_of Abstraction = 1
+parts_of Coroutine = 1
+parts_of Application = 2
+parts_of Yield = 1
+parts_of Start = 2
+parts_of Resume = 4
+parts_of Snapshot = 1
+parts_of Fix = 1
+parts_of Atom = 0
+parts_of Operation = 2
+parts_of Instance = 0
+parts_of Resumption = 4
+parts_of Suspension = 2
+parts_of Binding = 0
+parts_of UnitType = 0
+parts_of BottomType = 0
+parts_of BaseType = 0
+parts_of FunctionType = 0
+parts_of CoroutineType = 0
+parts_of InstanceType = 0
+parts_of ProgramHead = 0
+parts_of ImageHead = 0

@@ -3,8 +3,7 @@ use Rattle.std.proofs.Common.{◌≡◌, ℕ, suc, ◌+◌, max, List, [], ◌�
 use Rattle.std.specs.List.{AllByRecursion}
 use Rattle.calculus.specs.Terms.{Term, unit, variable, abstraction, coroutine, application, yield, start, resume, snapshot, fix, atom, operation, instance, resumption, suspension}
 use Rattle.calculus.specs.Parts.{parts, size, sizes}
-use Rattle.encoding.specs.Depths.{depth, deepest, depths_from, all_depths_from, greatest}
-use Rattle.encoding.specs.Laws.{WordDepths}
+use Rattle.encoding.specs.Depths.{depth, deepest, depths_from, all_depths_from, depths, greatest}
 use Rattle.encoding.proofs.Parts.{size_is, by_parts}
 
 -- the first word's depth, and then the depths of the parts
@@ -80,5 +79,8 @@ deep_step t a d =
 pub deep : (t : Term) (d : ℕ) → Deep d t
 deep = by_parts (λ t. (d : ℕ) → Deep d t) deep_step
 
-pub word_depths : WordDepths
-word_depths t = let h = deep t 1 in (h.count, omega arith)
+pub depths_counted : (t : Term) → length (depths t) ≡ size t
+depths_counted t = (deep t 1).count
+
+pub depths_reach : (t : Term) → greatest (depths t) ≡ depth t
+depths_reach t = omega (arith, (deep t 1).most)

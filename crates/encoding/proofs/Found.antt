@@ -1,6 +1,8 @@
 -- Words that the scan accepts are those of terms.
 use Rattle.std.proofs.Common.{◌≡◌, ℕ, zero, suc, ◌+◌, ◌/◌, ◌^◌, ◌≤◌, Bool, true, false, cond, ltb, List, [], ◌∷◌, ◌++◌, length, get_or, take, drop, Some, None, Option, sym, refl, ap, ◌∙◌, subst, arith}
 use Rattle.std.specs.List.{AllByRecursion}
+use Rattle.std.proofs.lemmas.Bool.{false≢true}
+use Rattle.std.proofs.lemmas.Option.{none-some}
 use Rattle.std.proofs.lemmas.List.{take-append-drop, length-drop}
 use Rattle.std.proofs.ByRecursion.{All-take, All-drop}
 use Rattle.calculus.specs.Terms.{Term, unit}
@@ -29,9 +31,6 @@ four [] h = absurd (omega arith)
 four (t ∷ []) h = absurd (omega arith)
 four (t ∷ u ∷ ts) h = ap (λ us. t ∷ u ∷ us) (two ts (omega arith))
 
-never : {A : Type 0} → ◌≡◌ {A = Bool} false true → A
-never e = let z : ◌≡◌ {A = ℕ} 0 1 = cc in absurd (omega arith)
-
 -- a word of a term and terms for its parts make a term of that word and those parts
 abbrev Joined : Word → List Term → Type 0
 Joined x ts =
@@ -54,15 +53,15 @@ joined (W.Operation number) ts h = (refl, two ts)
 joined (W.Instance label row) ts h = (refl, λ n. refl)
 joined (W.Resumption label) ts h = (refl, four ts)
 joined W.Suspension ts h = (refl, two ts)
-joined (W.Binding ready row) ts h = never h
-joined W.UnitType ts h = never h
-joined W.BottomType ts h = never h
-joined (W.BaseType base) ts h = never h
-joined (W.FunctionType argument result) ts h = never h
-joined (W.CoroutineType argument yields result) ts h = never h
-joined (W.InstanceType yields result) ts h = never h
-joined (W.ProgramHead rows term_words) ts h = never h
-joined (W.ImageHead used bindings) ts h = never h
+joined (W.Binding ready row) ts h = absurd (false≢true h)
+joined W.UnitType ts h = absurd (false≢true h)
+joined W.BottomType ts h = absurd (false≢true h)
+joined (W.BaseType base) ts h = absurd (false≢true h)
+joined (W.FunctionType argument result) ts h = absurd (false≢true h)
+joined (W.CoroutineType argument yields result) ts h = absurd (false≢true h)
+joined (W.InstanceType yields result) ts h = absurd (false≢true h)
+joined (W.ProgramHead rows term_words) ts h = absurd (false≢true h)
+joined (W.ImageHead used bindings) ts h = absurd (false≢true h)
 
 -- the term that a word of a term makes with the first of some terms
 record Made (w : ℕ) (ts : List Term) : Type 0 where
@@ -90,7 +89,7 @@ made_of w x ts a r k n =
 
 made_read :
     (w : ℕ) (ts : List Term) (o : Option Word) → read_word w ≡ o → of_term o ≡ true → AllByRecursion Fits ts → arity_of w ≤ length ts → Made w ts
-made_read w ts None e k a n = never k
+made_read w ts None e k a n = absurd (false≢true k)
 made_read w ts (Some x) e k a n = made_of w x ts a ((read_exact w x).1 e) k n
 
 -- n terms stand at the front of words, from place i to place e
@@ -125,12 +124,12 @@ by_test :
     (scan (n + arity_of w) (i + 1) ws ≡ Some e → Found (n + arity_of w) (i + 1) e ws) →
     cond b (scan (n + arity_of w) (i + 1) ws) None ≡ Some e → Found (suc n) i e (w ∷ ws)
 by_test n i e w ws true t more h = one_more n i e w ws t (more h)
-by_test n i e w ws false t more h = let z : ◌≡◌ {A = ℕ} 0 1 = cc in absurd (omega arith)
+by_test n i e w ws false t more h = absurd (none-some e h)
 
 pub found : (ws : List ℕ) (n i e : ℕ) → scan n i ws ≡ Some e → Found n i e ws
 found [] zero i e h =
     let z : i ≡ e = cc in record { terms = []; rest = []; fits = tt; count = refl; same = refl; ends = omega arith }
-found [] (suc n) i e h = let z : ◌≡◌ {A = ℕ} 0 1 = cc in absurd (omega arith)
+found [] (suc n) i e h = absurd (none-some e h)
 found (w ∷ ws) zero i e h =
     let z : i ≡ e = cc in record { terms = []; rest = w ∷ ws; fits = tt; count = refl; same = refl; ends = omega arith }
 found (w ∷ ws) (suc n) i e h = by_test n i e w ws (is_term_word w) refl (found ws (n + arity_of w) (i + 1) e) h

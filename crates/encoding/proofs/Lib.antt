@@ -6,4 +6,3 @@ pub mod Reading
 pub mod Scanning
 pub mod Found
 pub mod Places
-pub mod Passing

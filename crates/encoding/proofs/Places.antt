@@ -1,13 +1,14 @@
 -- A term that stands at a place among words: its words, its end and its parts.
 use Rattle.std.proofs.Common.{◌≡◌, ℕ, ◌+◌, ◌<◌, ◌≤◌, List, [], ◌∷◌, ◌++◌, length, get_or, take, drop, Some, None, Option, sym, ap, ◌∙◌, append_assoc, append-nil, add-zero, arith, length-drop, length-take, MatchOption}
 use Rattle.std.specs.List.{AllByRecursion}
+use Rattle.std.proofs.lemmas.Option.{none-some}
 use Rattle.std.proofs.lemmas.List.{take-append-drop, take_at, drop_at, drop-drop, get_or-drop}
 use Rattle.calculus.specs.Terms.{Term}
 use Rattle.calculus.specs.Parts.{parts, size}
 use Rattle.layout.specs.Layout.{word_of}
 use Rattle.encoding.specs.Encoding.{first_word, encode, encodes, Fits, Stands, AllStand}
 use Rattle.encoding.specs.Scanning.{scan}
-use Rattle.encoding.specs.Laws.{WordsOfTerms, PartsStand}
+use Rattle.encoding.specs.Laws.{PartsStand}
 use Rattle.encoding.proofs.Parts.{encode_is, size_is, fits_parts, length_encode}
 use Rattle.encoding.proofs.Reading.{unique}
 use Rattle.encoding.proofs.Scanning.{scan_encode}
@@ -48,15 +49,15 @@ pub scan_stands : (ws : List ℕ) (i e : ℕ) → scan 1 i (drop i ws) ≡ Some 
 scan_stands ws i e h =
     let r = found (drop i ws) 1 i e h in one_found ws i e r.terms r.rest r.fits r.count r.same r.ends
 
-pub words_of_terms : WordsOfTerms
-words_of_terms ws i e = (scan_stands ws i e, λ p. stands_scan p.0 ws i p.1 ∙ ap Some (sym p.2))
-
 -- what the scan answers, in terms
 pub end_cases :
     (ws : List ℕ) (i : ℕ) (r : Option ℕ) → r ≡ scan 1 i (drop i ws) →
     MatchOption r ((t : Term) → Stands t ws i → ⊥) (λ e. (t : Term) × Stands t ws i × (e ≡ i + size t))
-end_cases ws i None e = λ t s. let q = stands_scan t ws i s in let z : ◌≡◌ {A = ℕ} 0 1 = cc in omega arith
+end_cases ws i None e = λ t s. none-some (i + size t) (e ∙ stands_scan t ws i s)
 end_cases ws i (Some x) e = scan_stands ws i x (sym e)
+
+pub end_known : (ws : List ℕ) (i : ℕ) (r : Option ℕ) → r ≡ scan 1 i (drop i ws) → (t : Term) → Stands t ws i → r ≡ Some (i + size t)
+end_known ws i r e t s = e ∙ stands_scan t ws i s
 
 row_stands :
     (ts : List Term) (ws : List ℕ) (i : ℕ) (rest : List ℕ) → AllByRecursion Fits ts → drop i ws ≡ encodes ts ++ rest → AllStand ts ws i
@@ -83,6 +84,10 @@ module _ (t : Term) (ws : List ℕ) (i : ℕ) (s : Stands t ws i) where
 
   pub stands_inside : i < length ws
   stands_inside = omega (arith, stands_within, size_is t)
+
+pub end_within : (ws : List ℕ) (i e : ℕ) → Some e ≡ scan 1 i (drop i ws) → (i < e) × (e ≤ length ws)
+end_within ws i e h =
+    let p = scan_stands ws i e (sym h) in (omega (arith, p.2, size_is p.0), omega (arith, p.2, stands_within p.0 ws i p.1))
 
 pub parts_stand : PartsStand
 parts_stand = parts_of_standing

@@ -29,18 +29,18 @@ scan_more : (n i w : ℕ) (ws : List ℕ) → 0 < n → is_term_word w ≡ true 
 scan_more zero i w ws h e = absurd (omega arith)
 scan_more (suc n) i w ws h e = let m : suc n - 1 ≡ n = omega arith in rw (e, m)
 
--- the scan from a place on among words: at their end, at a word that is none of a term, and at one that is
-module _ (xs : List ℕ) (n i : ℕ) (some : 0 < n) where
-  pub scan_drop_end : length xs ≤ i → scan n i (drop i xs) ≡ None
-  scan_drop_end h = ap (scan n i) (drop_all i xs h) ∙ scan_end n i some
+-- the scan from the word i on, which has place p: at the end of the words, at a word that is none of a term, and at one that is
+module _ (xs : List ℕ) (n p i : ℕ) (some : 0 < n) where
+  pub scan_drop_end : length xs ≤ i → scan n p (drop i xs) ≡ None
+  scan_drop_end h = ap (scan n p) (drop_all i xs h) ∙ scan_end n p some
 
-  pub scan_drop_bad : i < length xs → is_term_word (get_or xs i 0) ≡ false → scan n i (drop i xs) ≡ None
-  scan_drop_bad h e = ap (scan n i) (drop_more xs i 0 h) ∙ scan_bad n i (get_or xs i 0) (drop (i + 1) xs) some e
+  pub scan_drop_bad : i < length xs → is_term_word (get_or xs i 0) ≡ false → scan n p (drop i xs) ≡ None
+  scan_drop_bad h e = ap (scan n p) (drop_more xs i 0 h) ∙ scan_bad n p (get_or xs i 0) (drop (i + 1) xs) some e
 
   pub scan_drop_more :
       i < length xs → is_term_word (get_or xs i 0) ≡ true →
-      scan n i (drop i xs) ≡ scan (n - 1 + arity_of (get_or xs i 0)) (i + 1) (drop (i + 1) xs)
-  scan_drop_more h e = ap (scan n i) (drop_more xs i 0 h) ∙ scan_more n i (get_or xs i 0) (drop (i + 1) xs) some e
+      scan n p (drop i xs) ≡ scan (n - 1 + arity_of (get_or xs i 0)) (p + 1) (drop (i + 1) xs)
+  scan_drop_more h e = ap (scan n p) (drop_more xs i 0 h) ∙ scan_more n p (get_or xs i 0) (drop (i + 1) xs) some e
 
 pub scan_none : (n i : ℕ) (ws : List ℕ) → n ≤ 0 → scan n i ws ≡ Some i
 scan_none zero i ws z = refl

@@ -1,10 +1,9 @@
 -- Steps of a cursor over words, from place i to place e, by what they answer.
-use Rattle.std.specs.Prelude.{◌≡◌, ℕ, ◌+◌, ◌<◌, ◌≤◌, List, length, drop, Some, None, Option, MatchOption, slice_index, slice_range}
+use Rattle.std.specs.Prelude.{◌≡◌, ℕ, ◌+◌, ◌<◌, ◌≤◌, List, length, Option, MatchOption, slice_index}
 use Rattle.std.specs.Borrow.{Bor}
 use Rattle.calculus.specs.Terms.{Term}
 use Rattle.calculus.specs.Parts.{size}
 use Rattle.encoding.specs.Encoding.{encode, Stands}
-use Rattle.encoding.specs.Scanning.{scan}
 
 -- over a word: the word, or nothing where the words end
 abbrev pub OverWord : List ℕ → ℕ → ℕ → Option ℕ → Type 0
@@ -24,9 +23,3 @@ OverKnown ws i e r = (t : Term) → Stands t ws i → MatchOption r ⊥ (λ s. s
 -- over a part of the words, as long as what is answered
 abbrev pub OverPart : List ℕ → ℕ → ℕ → Option (Bor (List ℕ)) → Type 0
 OverPart ws i e r = MatchOption r (e ≡ i) (λ s. (i < e) × (e ≤ length ws) × (e ≡ i + length s.now))
-
--- over the words up to the place that the scan of one term answers
-abbrev pub OverScanned : List ℕ → ℕ → ℕ → Option (Bor (List ℕ)) → Type 0
-OverScanned ws i e r =
-    MatchOption r ((scan 1 i (drop i ws) ≡ None) × (e ≡ i))
-    (λ s. (scan 1 i (drop i ws) ≡ Some e) × (i < e) × (e ≤ length ws) × (s.now ≡ slice_range ws i e))

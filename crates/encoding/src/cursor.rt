@@ -1,9 +1,10 @@
 // A place among words, and steps from it to the right: over a word, or over a term.
 ghost use Rattle.std.specs.Prelude.{◌≡◌, ◌<◌, ◌≤◌, length, MatchOption};
-ghost use Rattle.encoding.specs.Cursors.{OverWord, OverTerm, OverKnown, OverPart, OverScanned};
+ghost use Rattle.encoding.specs.Cursors.{OverWord, OverTerm, OverKnown, OverPart};
 
 use crate::ends::end_of;
 
+// Kept: a place beside the words and no slice of the words to come, since the contracts speak of places among all words.
 #[derive(Clone, Copy)]
 pub struct Cursor<'a> {
     words: &'a [u32],
@@ -22,10 +23,7 @@ impl<'a> Cursor<'a> {
     pub fn from(words: &'a [u32], at: usize) -> Option<Self>
         ensures { MatchOption result (length words.now < at) (λ c. (at ≤ length words.now) × (c.words.now ≡ words.now) × (c.at ≡ at)) }
     {
-        if at > words.len() {
-            return None;
-        }
-        Some(Cursor { words, at })
+        (at <= words.len()).then_some(Cursor { words, at })
     }
 
     // Where the cursor is.
@@ -41,11 +39,9 @@ impl<'a> Cursor<'a> {
         ensures words { self.new.words ≡ self.old.words }
     {
         let Cursor { words, at } = *self;
-        if at >= words.len() {
-            return None;
-        }
+        let word = *words.get(at)?;
         *self = Cursor { words, at: at + 1 };
-        Some(words[at])
+        Some(word)
     }
 
     // The words of the term at the cursor, which moves behind it; nothing where no term stands there.
@@ -55,18 +51,8 @@ impl<'a> Cursor<'a> {
         ensures part { OverPart self.old.words.now self.old.at self.new.at result }
         ensures words { self.new.words ≡ self.old.words }
     {
-        self.past_term()
-    }
-
-    // The same, by the scan.
-    fn past_term(&mut self) -> Option<&'a [u32]>
-        ensures step { OverScanned self.old.words.now self.old.at self.new.at result }
-        ensures words { self.new.words ≡ self.old.words }
-    {
         let Cursor { words, at } = *self;
-        let Some(end) = end_of(words, at) else {
-            return None;
-        };
+        let end = end_of(words, at)?;
         *self = Cursor { words, at: end };
         Some(&words[at..end])
     }

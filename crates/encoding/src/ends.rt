@@ -7,6 +7,7 @@ ghost use Rattle.encoding.specs.Scanning.{scan};
 
 use crate::first::{arity, is_term_word};
 
+// Kept: words and a place, here and in the crates above, since terms are spoken of at their place among all words.
 // The place after the term that stands at a place; nothing where none stands there.
 pub fn end_of(words: &[u32], at: usize) -> Option<usize>
     ensures value { result ≡ scan 1 at (drop at words.now) }
@@ -14,29 +15,18 @@ pub fn end_of(words: &[u32], at: usize) -> Option<usize>
     ensures known { (t : Term) → Stands t words.now at → result ≡ Some (at + size t) }
     ensures bounds { IfSome result (λ e. (at < e) × (e ≤ length words.now)) }
 {
-    scanned(words, at)
-}
-
-// The place after the words of one term, counting the terms that are still to come.
-fn scanned(words: &[u32], at: usize) -> Option<usize>
-    ensures value { result ≡ scan 1 at (drop at words.now) }
-    ensures bounds { IfSome result (λ e. (at < e) × (e ≤ length words.now)) }
-{
-    if at > words.len() {
-        return None;
-    }
+    // Kept: terms to come are counted here and in the walks of image and path, which stop at words of their own.
+    let rest = words.get(at..)?;
+    // How many terms are still to come.
     let mut pending = 1;
-    let mut place = at;
-    while pending > 0 {
-        if place == words.len() {
+    for (passed, word) in rest.iter().enumerate() {
+        if !is_term_word(*word) {
             return None;
         }
-        let word = words[place];
-        if !is_term_word(word) {
-            return None;
+        pending = pending - 1 + arity(*word) as usize;
+        if pending == 0 {
+            return Some(at + passed + 1);
         }
-        pending = pending - 1 + arity(word) as usize;
-        place += 1;
     }
-    Some(place)
+    None
 }

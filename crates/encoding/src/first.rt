@@ -1,27 +1,27 @@
-// The first word of a term: whether a number is one, and how many parts follow it.
-ghost use Rattle.std.specs.Prelude.{◌≡◌};
+// The first word of a term: whether a number is one, how many parts follow it, and whether it binds a name.
+ghost use Rattle.std.specs.Prelude.{◌≡◌, ◌/◌, ◌^◌, ◌||◌, ◌==◌};
 ghost use Rattle.encoding.specs.Scanning.{arity_of, is_term_word};
 
 use layout::Word;
-use words::fields::kind_number;
-
-// How many parts follow a word of each kind of term.
-const PARTS: [u8; 15] = [0, 0, 1, 1, 2, 1, 2, 4, 1, 1, 0, 2, 0, 4, 2];
+use words::kinds::Kind;
 
 // How many parts follow a word of a term; 0 for other words.
 pub fn arity(word: u32) -> u8
     ensures { result ≡ arity_of word }
 {
-    let kind = kind_number(word) as usize;
-    if kind < 15 { PARTS[kind] } else { 0 }
+    Kind::of_word(word).map_or(0, Kind::parts)
+}
+
+// Whether a word binds a name in its part: that of an abstraction or a coroutine.
+pub fn is_binder(word: u32) -> bool
+    ensures { result ≡ (word / 2 ^ 27 == 2 || word / 2 ^ 27 == 3) }
+{
+    Kind::Abstraction.is_of(word) || Kind::Coroutine.is_of(word)
 }
 
 // Whether a number stands for a word of a term: of a kind from 0 to 14, with no bit set that has no use in it.
 pub fn is_term_word(word: u32) -> bool
     ensures { result ≡ is_term_word word }
 {
-    match Word::read(word) {
-        Some(found) => found.kind().number() < 15,
-        None => false,
-    }
+    Word::try_from(word).is_ok_and(|found| found.kind().is_of_term())
 }

@@ -1,3 +1,2 @@
-mod Parting
 mod RowLoops
 mod TermLoop

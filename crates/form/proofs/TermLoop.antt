@@ -1,6 +1,6 @@
 -- One turn of the loop over a term's words.
-use Rattle.std.proofs.Common.{◌≡◌, ℕ, suc, ◌+◌, ◌<◌, ◌≤◌, Bool, true, false, cond, ltb, List, [], ◌∷◌, length, get_or, drop, Some, None, Ok, Err, Option, Result, sym, refl, ap, ◌∙◌, subst, arith}
-use Rattle.std.proofs.lemmas.List.{drop_more, drop_all}
+use Rattle.std.proofs.Common.{◌≡◌, ℕ, suc, ◌+◌, ◌<◌, ◌≤◌, Bool, true, false, cond, ltb, List, [], ◌∷◌, length, get_or, drop, Some, Ok, Err, Option, Result, sym, refl, ap, ◌∙◌, ap₂, arith}
+use Rattle.std.proofs.lemmas.List.{drop_more}
 use Rattle.std.proofs.lemmas.Bool.{ne_eqb, ltb-false}
 use Rattle.faults.specs.declared.Fault.{Fault}
 use Rattle.faults.specs.declared.numbers.FaultNumber.TheVariants.{TermWord, TermEnd, Depth}
@@ -57,51 +57,27 @@ word_fine rows w p ws (n ∷ ns) e =
     in
     record { goes = k.0; shallow = ltb-false 256 (length (n ∷ ns)) k.1 }
 
--- a cursor over the words vs, which are xs, has passed the word w at place i, and is now at e
-abbrev Passed : List ℕ → ℕ → ℕ → ℕ → Type 0
-Passed vs i w e = (i < length vs) × (w ≡ get_or vs i 0) × (e ≡ i + 1)
+-- the word i of xs, whose places count from first, with the open terms o: its depth is d, and its place p
+module _ (rows xs : List ℕ) (first i d p : ℕ) (o : List ℕ) (within : i < length xs) (deep : d ≡ length o) (place : p ≡ i + first) where
+  abbrev w : ℕ
+  w = get_or xs i 0
 
-pub passed_same : (vs xs : List ℕ) (i w e : ℕ) → vs ≡ xs → Passed vs i w e → Passed xs i w e
-passed_same vs xs i w e q h = subst (λ (v : List ℕ). Passed v i w e) q h
+  here : word_fault rows w d p ≡ word_fault rows w (length o) (i + first)
+  here = ap₂ (word_fault rows w) deep place
 
--- the words of xs from place i on, whose places count from first; d is the number of open terms
-module _ (rows xs : List ℕ) (first i : ℕ) (o : List ℕ) where
-  at_place :
-      (w p : ℕ) → i < length xs → w ≡ get_or xs i 0 → p ≡ i + first →
-      term_fault rows p o (w ∷ drop (i + 1) xs) ≡ term_fault rows (i + first) o (drop i xs)
-  at_place w p h v q =
-      ap (λ n. term_fault rows n o (w ∷ drop (i + 1) xs)) q
-      ∙ ap (λ x. term_fault rows (i + first) o (x ∷ drop (i + 1) xs)) v ∙ sym (ap (term_fault rows (i + first) o) (drop_more xs i 0 h))
+  from_word : term_fault rows (i + first) o (w ∷ drop (i + 1) xs) ≡ term_fault rows (i + first) o (drop i xs)
+  from_word = sym (ap (term_fault rows (i + first) o) (drop_more xs i 0 within))
 
-  pub turn_faulty :
-      (w p d e : ℕ) (f : Fault) → Passed xs i w e → p ≡ i + first → d ≡ length o → Err f ≡ word_fault rows w d p →
-      Some f ≡ term_fault rows (i + first) o (drop i xs)
-  turn_faulty w p d e f h q l k =
-      word_faulty rows w p (drop (i + 1) xs) o f (k ∙ ap (λ n. word_fault rows w n p) l) ∙ at_place w p h.0 h.1 q
+  pub turn_faulty : (f : Fault) → Err f ≡ word_fault rows w d p → Some f ≡ term_fault rows (i + first) o (drop i xs)
+  turn_faulty f e = word_faulty rows w (i + first) (drop (i + 1) xs) o f (e ∙ here) ∙ from_word
 
-  pub turn_shallow : (w p d : ℕ) → d ≡ length o → passed ≡ word_fault rows w d p → length o ≤ 256
-  turn_shallow w p d l k = (word_fine rows w p [] o (k ∙ ap (λ n. word_fault rows w n p) l)).shallow
+  pub turn_shallow : passed ≡ word_fault rows w d p → length o ≤ 256
+  turn_shallow e = (word_fine rows w (i + first) [] o (e ∙ here)).shallow
 
+  -- the fault is that of the words after it, with the terms that are then open
   pub turn_fine :
-      (w p d e a : ℕ) (u : List ℕ) → Passed xs i w e → p ≡ i + first → d ≡ length o → passed ≡ word_fault rows w d p → a ≡ arity_of w →
-      u ≡ opened a o → term_fault rows (e + first) u (drop e xs) ≡ term_fault rows (i + first) o (drop i xs)
-  turn_fine w p d e a u h q l k n r =
-      let s : e + first ≡ suc p = omega (arith, h.2) in
-      ap (λ m. term_fault rows m u (drop e xs)) s
-      ∙ ap (λ v. term_fault rows (suc p) v (drop e xs)) (r ∙ ap (λ m. opened m o) n)
-      ∙ ap (λ m. term_fault rows (suc p) (opened (arity_of w) o) (drop m xs)) h.2
-      ∙ (word_fine rows w p (drop (i + 1) xs) o (k ∙ ap (λ m. word_fault rows w m p) l)).goes ∙ at_place w p h.0 h.1 q
-
-  pub turn_late : length xs ≤ i → 0 < length o → Some (fault_of TermEnd (i + first)) ≡ term_fault rows (i + first) o (drop i xs)
-  turn_late h s = at_end o s ∙ sym (ap (term_fault rows (i + first) o) (drop_all i xs h))
-    where
-      at_end : (o : List ℕ) → 0 < length o → Some (fault_of TermEnd (i + first)) ≡ term_fault rows (i + first) o []
-      at_end [] s = absurd (omega arith)
-      at_end (n ∷ ns) s = refl
-
-  pub turn_done : length xs ≤ i → length o ≤ 0 → None ≡ term_fault rows (i + first) o (drop i xs)
-  turn_done h s = at_end o s ∙ sym (ap (term_fault rows (i + first) o) (drop_all i xs h))
-    where
-      at_end : (o : List ℕ) → length o ≤ 0 → None ≡ term_fault rows (i + first) o []
-      at_end [] s = refl
-      at_end (n ∷ ns) s = absurd (omega arith)
+      (u : List ℕ) → passed ≡ word_fault rows w d p → u ≡ opened (arity_of w) o →
+      term_fault rows (i + 1 + first) u (drop (i + 1) xs) ≡ term_fault rows (i + first) o (drop i xs)
+  turn_fine u e q =
+      let s : i + 1 + first ≡ suc (i + first) = omega arith in
+      ap₂ (λ m v. term_fault rows m v (drop (i + 1) xs)) s q ∙ (word_fine rows w (i + first) (drop (i + 1) xs) o (e ∙ here)).goes ∙ from_word

@@ -12,7 +12,7 @@ use Rattle.layout.specs.Layout.{word_of, read_word}
 use Rattle.encoding.specs.Encoding.{encode}
 use Rattle.encoding.specs.Depths.{depths, greatest}
 use Rattle.encoding.proofs.Parts.{size_is, length_encode}
-use Rattle.encoding.proofs.Depths.{word_depths}
+use Rattle.encoding.proofs.Depths.{depths_reach}
 use Rattle.encoding.proofs.Reading.{unique}
 use Rattle.programs.specs.Tables.{row_word, table_words, RowFits}
 use Rattle.programs.specs.Programs.{Headed, ProgramWords}
@@ -71,7 +71,7 @@ program_of K words rows term h a w =
     let keeps = subst (λ l. AllByRecursion (λ v. word_rule l v ≡ true) (encode t)) (sym a.words) w.2 in
     let m : length rows ≡ length table = ap length (sym a.words) ∙ length_table_words table in
     let n : length term ≡ size t = ap length (sym w.3) ∙ length_encode t in
-    let deep = (word_depths t).1 in
+    let deep = depths_reach t in
     let under = under_all (depths t) w.4 in (
       table,
       t,
@@ -123,7 +123,7 @@ module _ (K : ℕ) (words : List ℕ) (table : List Row) (t : Term) (p : Program
     p.term_fits,
     allowed_keeps table p.rows_fit t p.term_fits p.allowed,
     refl,
-    all_under (depths t) (omega (arith, (word_depths t).1, p.shallow)),
+    all_under (depths t) (omega (arith, depths_reach t, p.shallow)),
   )
 
   program_read : read_program K words ≡ Ok (record { rows = table_words table; term = encode t })

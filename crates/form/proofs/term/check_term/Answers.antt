@@ -1,65 +1,38 @@
-use Rattle.std.proofs.Common.{◌≡◌, ℕ, suc, ◌+◌, ◌≤◌, List, length, Err, ap, ◌∙◌, subst, arith}
-use Rattle.faults.specs.declared.numbers.FaultNumber.TheVariants.{TermEnd}
-use Rattle.faults.specs.Faults.{fault_of}
+use Rattle.std.proofs.Common.{◌≡◌, suc, ◌+◌, length, ap, ◌∙◌, arith}
+use Rattle.std.proofs.lemmas.Result.{err_from_is_err_and}
 use Rattle.stack.specs.Entries.{entries}
 use Rattle.form.specs.Parted.{fine}
-use Rattle.form.proofs.TermLoop.{passed_same, turn_faulty, turn_shallow, turn_fine, turn_late, turn_done}
+use Rattle.programs.specs.Terms.{opened}
+use Rattle.form.proofs.TermLoop.{turn_faulty, turn_shallow, turn_fine}
 use Rattle.form.proofs.term.check_term.Goals as goal
 
-pub returns-in-Err : goal.returns-in-Err
-returns-in-Err c =
-    let l = c.loop-word in
-    let h =
-    passed_same l.cursor.words.now c.args.term.now l.cursor.at c.in-Some.word c.next_word.new.self.at l.invariant.2
-    c.in-Some.ensures.step
-    in
-    ap fine
-    (turn_faulty c.args.rows.now c.args.term.now (suc (length c.args.rows.now)) l.cursor.at
-    (entries l.due.slots.now l.due.len) c.in-Some.word _ c.len.result c.next_word.new.self.at c.in-Err.fault h
-    (omega (arith, h.2, c.place.ensures)) c.len.ensures c.in-Err.ensures
-    ∙ l.invariant.4)
-
-pub loop-word-preserved : goal.loop-word-preserved
-loop-word-preserved c =
-    let l = c.loop-word in
+pub returns-in_err-check_word : goal.returns-in_err-check_word
+returns-in_err-check_word c =
+    let l = c.loop-i in
     let rows = c.args.rows.now in
     let o = entries l.due.slots.now l.due.len in
-    let h =
-    passed_same l.cursor.words.now c.args.term.now l.cursor.at c.in-Some.word c.next_word.new.self.at l.invariant.2
-    c.in-Some.ensures.step
+    let p = err_from_is_err_and c.from_residual.result c.from_residual.ensures.1 in
+    let f =
+    turn_faulty rows c.args.term.now (suc (length rows)) l.i c.len.result (length rows + 1 + l.i) o c.loop-i-test.true
+    c.len.ensures (omega arith) c.in_err-check_word.field-0.0 c.in_err-check_word.ensures
     in
-    let small = turn_shallow rows c.args.term.now (suc (length rows)) l.cursor.at o c.in-Some.word _ c.len.result c.len.ensures c.in_default-check_word.ensures in (
-      c.open_term.ensures.long ∙ l.invariant.0,
-      c.open_term.ensures.same ∙ l.invariant.1,
-      ap (λ q. q.now) c.in-Some.ensures.words ∙ l.invariant.2,
-      omega (arith, h.0, h.2),
-      turn_fine rows c.args.term.now (suc (length rows)) l.cursor.at o c.in-Some.word _ c.len.result
-          c.next_word.new.self.at c.arity.result (entries c.open_term.new.due.slots.now c.open_term.new.due.len) h
-          (omega (arith, h.2, c.place.ensures)) c.len.ensures c.in_default-check_word.ensures c.arity.ensures
-          (c.open_term.ensures.all (omega (arith, small, l.invariant.0)))
-          ∙ l.invariant.4,
+    rw (p.1, p.2) (ap fine (f ∙ l.invariant.2))
+
+pub loop-i-preserved : goal.loop-i-preserved
+loop-i-preserved c =
+    let l = c.loop-i in
+    let rows = c.args.rows.now in
+    let xs = c.args.term.now in
+    let o = entries l.due.slots.now l.due.len in
+    let e = c.in_ok-check_word.ensures in
+    let place : length rows + 1 + l.i ≡ l.i + suc (length rows) = omega arith in
+    let small =
+    turn_shallow rows xs (suc (length rows)) l.i c.len.result (length rows + 1 + l.i) o c.loop-i-test.true c.len.ensures place e
+    in (
+      c.open_term.ensures.over.0 ∙ l.invariant.0,
+      c.open_term.ensures.over.1 ∙ l.invariant.1,
+      turn_fine rows xs (suc (length rows)) l.i c.len.result (length rows + 1 + l.i) o c.loop-i-test.true c.len.ensures place
+          (entries c.open_term.new.due.slots.now c.open_term.new.due.len) e
+          (c.open_term.ensures.all (omega (arith, small, l.invariant.0)) ∙ ap (λ n. opened n o) c.arity.ensures)
+          ∙ l.invariant.2,
     )
-
-pub returns-then-len-gt0 : goal.returns-then-len-gt0
-returns-then-len-gt0 c =
-    let l = c.loop-word in
-    let xs = c.args.term.now in
-    let rows = c.args.rows.now in
-    let done : length xs ≤ l.cursor.at = subst (λ (v : List ℕ). length v ≤ l.cursor.at) l.invariant.2 c.in_default.ensures.step.0 in
-    let same : length rows + 1 + length xs ≡ l.cursor.at + suc (length rows) = omega (arith, l.invariant.3) in
-    ap Err (c.new.ensures ∙ ap (fault_of TermEnd) same)
-    ∙ ap fine
-    (turn_late rows xs (suc (length rows)) l.cursor.at (entries l.due.slots.now l.due.len) done
-    (omega (arith, c.len-2.ensures, c.if-len-gt0.true))
-    ∙ l.invariant.4)
-
-pub returns : goal.returns
-returns c =
-    let l = c.loop-word in
-    let xs = c.args.term.now in
-    let rows = c.args.rows.now in
-    let done : length xs ≤ l.cursor.at = subst (λ (v : List ℕ). length v ≤ l.cursor.at) l.invariant.2 c.in_default.ensures.step.0 in
-    ap fine
-    (turn_done rows xs (suc (length rows)) l.cursor.at (entries l.due.slots.now l.due.len) done
-    (omega (arith, c.len-2.ensures, c.if-len-gt0.false))
-    ∙ l.invariant.4)

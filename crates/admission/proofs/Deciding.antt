@@ -1,5 +1,5 @@
 -- What admit answers decides whether a program has a type.
-use Rattle.std.proofs.Common.{◌≡◌, ℕ, suc, ◌≤◌, ◌⊎◌, List, [], ◌∷◌, ◌++◌, length, drop, Ok, Err, Result, sym, refl, ap, ◌∙◌, inl, inr, append-nil, arith}
+use Rattle.std.proofs.Common.{◌≡◌, ℕ, suc, ◌≤◌, ◌⊎◌, List, [], ◌∷◌, ◌++◌, length, drop, Ok, Err, Result, sym, refl, ap, subst, ◌∙◌, inl, inr, append-nil, arith}
 use Rattle.std.proofs.lemmas.List.{drop_at}
 use Rattle.faults.specs.declared.Fault.{Fault}
 use Rattle.quantities.specs.Meaning.{Meaning, Lawful}
@@ -10,7 +10,7 @@ use Rattle.programs.specs.Tables.{table_words}
 use Rattle.programs.specs.Programs.{Allowed, ProgramWords}
 use Rattle.programs.specs.Reading.{Split, read_program}
 use Rattle.programs.proofs.Programs as programs
-use Rattle.rules.specs.Rules.{accepted}
+use Rattle.rules.specs.Rules.{Verdict, accepted}
 use Rattle.judging.specs.Verdicts.{verdict}
 use Rattle.judging.proofs.Typings.{typings}
 use Rattle.judging.proofs.Located.{located}
@@ -124,3 +124,8 @@ module _ (m : Meaning) (L : Lawful m) (words : List ℕ) (s n : ℕ) (hs : 256 �
             ((λ h. accepts_at (read_program m.bases words) refl T Y (roomy m words s n hs hn ∙ h)), admitted_so T Y);
         refuses = λ f h. refuses_at (read_program m.bases words) refl f (roomy m words s n hs hn ∙ h);
       }
+
+-- and so does an answer that is the same
+pub decided :
+    (m : Meaning) → Lawful m → (words : List ℕ) (s n : ℕ) (v : Verdict) → v ≡ admit_answer m words s n → 256 ≤ s → 256 ≤ n → Decides m words v
+decided m L words s n v e hs hn = subst (λ (v : Verdict). Decides m words v) (sym e) (decides m L words s n hs hn)

@@ -26,29 +26,13 @@ pub fn admit<Q: QuantitySet>(
     ensures scopes { scopes.new ≡ replicate (length scopes.old) nobody }
     ensures judgements { judgements.new ≡ replicate (length judgements.old) (fresh 0 0) }
 {
-    judge_words(set, program, scopes, judgements)
-}
-
-// The same, by its parts.
-fn judge_words<Q: QuantitySet>(
-    set: &Q,
-    program: &[u32],
-    scopes: &mut [Scoped],
-    judgements: &mut [Frame],
-) -> Result<Judged, Fault>
-    ensures answer { result ≡ admit_answer Q.meaning program.now (length scopes.old) (length judgements.old) }
-    ensures scopes { scopes.new ≡ replicate (length scopes.old) nobody }
-    ensures judgements { judgements.new ≡ replicate (length judgements.old) (fresh 0 0) }
-{
+    // Kept: cleared and counted here and where a program is opened, since that call looks at lengths in between.
     clear(&mut *scopes);
     clear(&mut *judgements);
     if scopes.len() < 256 || judgements.len() < 256 {
         return Err(Fault::new(FaultNumber::WorkShort, 0));
     }
-    let parts = match read_program(program, set.bases()) {
-        Ok(parts) => parts,
-        Err(fault) => return Err(fault),
-    };
+    let parts = read_program(program, set.bases())?;
     check(
         set,
         parts.rows,

@@ -2,20 +2,16 @@
 ghost use Rattle.std.specs.Prelude.{◌≡◌};
 ghost use Rattle.rules.specs.Table.{shape_of_kind, shape_of, shape_at, argument_of};
 
-use crate::model::Shape;
-use words::fields::{first, kind_number, second, third, type_base};
+use crate::model::{Shape, UNIT_ROW};
+use words::fields::{first, second, third, type_base};
 use words::kinds::Kind;
 
 // What stands at a row.
 pub fn shape_at(rows: &[u32], row: u16) -> Shape
     ensures { result ≡ shape_at rows.now row }
 {
-    let place = row as usize;
-    if place < rows.len() {
-        shape(rows[place])
-    } else {
-        Shape::NoRow
-    }
+    rows.get(row as usize)
+        .map_or(Shape::NoRow, |word| shape(*word))
 }
 
 // The argument row of a binder's row; Unit's where the row is not that of a binder.
@@ -25,7 +21,7 @@ pub fn argument(shape: Shape) -> u16
     match shape {
         Shape::FunctionRow { argument, .. } => argument,
         Shape::CoroutineRow { argument, .. } => argument,
-        _ => 0,
+        _ => UNIT_ROW,
     }
 }
 
@@ -33,10 +29,7 @@ pub fn argument(shape: Shape) -> u16
 fn shape(word: u32) -> Shape
     ensures { result ≡ shape_of word }
 {
-    let Some(kind) = Kind::of_number(kind_number(word)) else {
-        return Shape::NoRow;
-    };
-    shape_of_kind(kind, word)
+    Kind::of_word(word).map_or(Shape::NoRow, |kind| shape_of_kind(kind, word))
 }
 
 // The same, of a word of a known kind.

@@ -1,6 +1,5 @@
 -- The proofs, each after those that it uses.
 pub mod Looking
 pub mod Steps
-pub mod Words
 pub mod Firsts
 pub mod Runs

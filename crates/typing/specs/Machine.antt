@@ -1,5 +1,6 @@
 -- The check over words, from left to right, with the unfinished judgements and the variables in scope as lists, the newest first.
-use Rattle.std.specs.Prelude.{◌≡◌, ℕ, ◌+◌, ◌/◌, ◌%◌, ◌^◌, Bool, true, false, cond, not, ◌||◌, List, [], ◌∷◌, length, Some, None, Ok, Err, Option, ◌==◌, nat_lt}
+use Rattle.std.specs.Prelude.{◌≡◌, ℕ, ◌+◌, ◌/◌, ◌%◌, ◌^◌, Bool, true, false, cond, not, ◌||◌, List, [], ◌∷◌, length, Some, None, Ok, Err, Option, Result, ◌==◌, nat_lt}
+use Rattle.faults.specs.declared.Fault.{Fault}
 use Rattle.faults.specs.declared.numbers.FaultNumber.TheVariants.{WorkShort}
 use Rattle.quantities.specs.Meaning.{Meaning}
 use Rattle.rules.specs.declared.model.Judged.{Judged}
@@ -101,9 +102,10 @@ settle m rows Γ [] = go [] Γ
 settle m rows Γ (e ∷ fs) = settle_on m rows Γ e fs
 
 -- a turn stops with this answer, or goes on with these lists
-abbrev pub Settles : Option Verdict → Turn → List Frame → List Scoped → Type 0
-Settles None t fs Γ = t ≡ go fs Γ
-Settles (Some v) t fs Γ = t ≡ stop v
+abbrev pub Settles : Result (Option Judged) Fault → Turn → List Frame → List Scoped → Type 0
+Settles (Ok None) t fs Γ = t ≡ go fs Γ
+Settles (Ok (Some j)) t fs Γ = t ≡ stop (Ok j)
+Settles (Err f) t fs Γ = t ≡ stop (Err f)
 
 -- a list has no room
 abbrev pub short : Verdict

@@ -5,13 +5,15 @@ use rules::model::{Judged, Variable};
 use stack::Entry;
 
 // A variable in scope.
-#[derive(Clone, Copy)]
+// Kept: a wrapper, because an impl of another crate's trait needs a type of this crate.
+#[derive(Clone, Copy, PartialEq, Eq, Default, Debug)]
 pub struct Scoped {
     pub variable: Variable,
 }
 
 // An unfinished judgement: a word and its place, how many of its parts are judged, and their judgements.
-#[derive(Clone, Copy)]
+// Kept: four fields in place of an array, because each rule takes its parts by name, and a field needs no bound.
+#[derive(Clone, Copy, PartialEq, Eq, Default, Debug)]
 pub struct Frame {
     pub word: u32,
     pub place: usize,
@@ -26,9 +28,7 @@ impl Entry for Scoped {
     ghost blank = { nobody };
 
     fn blank() -> Scoped {
-        Scoped {
-            variable: Variable { name: 0, row: 0 },
-        }
+        Scoped::default()
     }
 }
 
@@ -36,15 +36,6 @@ impl Entry for Frame {
     ghost blank = { fresh 0 0 };
 
     fn blank() -> Frame {
-        let none = Judged { row: 0, yields: 0 };
-        Frame {
-            word: 0,
-            place: 0,
-            done: 0,
-            first: none,
-            second: none,
-            third: none,
-            fourth: none,
-        }
+        Frame::default()
     }
 }

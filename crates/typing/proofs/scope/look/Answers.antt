@@ -1,20 +1,18 @@
-use Rattle.std.proofs.Common.{sym, ap, ◌∙◌, arith}
-use Rattle.rules.specs.Rules.{look}
-use Rattle.typing.specs.Machine.{variables}
-use Rattle.typing.proofs.Looking.{look_hit, look_miss, all_entries}
+use Rattle.std.proofs.Common.{◌≡◌, eqb, reverse, ap, ◌∙◌, arith, rules, tests}
+use Rattle.std.specs.List.{find}
+use Rattle.std.specs.Option.{option_map}
+use Rattle.std.proofs.lemmas.Grind.{common_steps}
+use Rattle.std.proofs.lemmas.Iterator.Adapters.{YieldsList-from_rev_slice}
+use Rattle.std.proofs.lemmas.Iterator.Search.{find_from_yields_List}
+use Rattle.typing.specs.declared.model.Scoped.{Scoped}
+use Rattle.typing.proofs.Looking.{look_found}
 use Rattle.typing.proofs.scope.look.Goals as goal
 
-pub loop-count-init : goal.loop-count-init
-loop-count-init c = (omega arith, ap (λ l. look (variables l) c.args.name) (all_entries c.args.held.now))
-
-pub returns-then-name-variable : goal.returns-then-name-variable
-returns-then-name-variable c =
-    sym (look_hit c.args.held.now c.loop-count.count c.args.name (omega arith) (omega arith) c.if-name-variable.true)
-    ∙ c.loop-count.invariant.1
-
-pub loop-count-preserved : goal.loop-count-preserved
-loop-count-preserved c = (
-  omega arith,
-  sym (look_miss c.args.held.now c.loop-count.count c.args.name (omega arith) (omega arith) c.if-name-variable.false)
-      ∙ c.loop-count.invariant.1,
-)
+pub returns : goal.returns
+returns c =
+    let found : option_map (λ b. b.now) c.find.result ≡ find (λ (b : Scoped). eqb c.args.name b.variable.name) (reverse c.args.held.now) =
+    find_from_yields_List (λ (b : Scoped). eqb c.args.name b.variable.name) _ _ c.find.result c.find.ensures.ran
+    (YieldsList-from_rev_slice c.args.held.now cc) (λ x b q k. search (rules, tests))
+    in
+    let mapped : c.map.result ≡ option_map (λ (b : Scoped). b.variable.row) (option_map (λ b. b.now) c.find.result) = grind (arith, common_steps) in
+    mapped ∙ ap (option_map (λ (b : Scoped). b.variable.row)) found ∙ look_found (reverse c.args.held.now) c.args.name

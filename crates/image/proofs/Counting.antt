@@ -17,20 +17,29 @@ module _
   abbrev Passes : Term → Type 0
   Passes t = P t → (n i : ℕ) (rest : List ℕ) → F (suc n) i (encode t ++ rest) ≡ F n (i + size t) rest
 
-  passes_all :
+  row_passes :
       (ts : List Term) → AllByRecursion Passes ts → AllByRecursion P ts → (n i : ℕ) (rest : List ℕ) →
       F (n + length ts) i (encodes ts ++ rest) ≡ F n (i + sizes ts) rest
-  passes_all [] a f n i rest = ap (λ m. F m i rest) (omega arith) ∙ ap (λ m. F n m rest) (omega arith)
-  passes_all (t ∷ ts) a f n i rest =
+  row_passes [] a f n i rest = ap (λ m. F m i rest) (omega arith) ∙ ap (λ m. F n m rest) (omega arith)
+  row_passes (t ∷ ts) a f n i rest =
       let s : n + suc (length ts) ≡ suc (n + length ts) = omega arith in
       let l : i + size t + sizes ts ≡ i + (size t + sizes ts) = omega arith in
       rw (append_assoc, s)
-      (a.0 f.0 (n + length ts) i (encodes ts ++ rest) ∙ passes_all ts a.1 f.1 n (i + size t) rest ∙ ap (λ m. F n m rest) l)
+      (a.0 f.0 (n + length ts) i (encodes ts ++ rest) ∙ row_passes ts a.1 f.1 n (i + size t) rest ∙ ap (λ m. F n m rest) l)
 
   passes_step : (t : Term) → AllByRecursion Passes (parts t) → Passes t
   passes_step t a f n i rest =
       let l : i + 1 + sizes (parts t) ≡ i + size t = omega (arith, size_is t) in
-      rw (encode_is t) (step t f n i rest ∙ passes_all (parts t) a (down t f) n (i + 1) rest ∙ ap (λ m. F n m rest) l)
+      rw (encode_is t) (step t f n i rest ∙ row_passes (parts t) a (down t f) n (i + 1) rest ∙ ap (λ m. F n m rest) l)
 
   pub passes : (t : Term) → P t → (n i : ℕ) (rest : List ℕ) → F (suc n) i (encode t ++ rest) ≡ F n (i + size t) rest
   passes t = by_parts Passes passes_step t
+
+  every_passes : (ts : List Term) → AllByRecursion Passes ts
+  every_passes [] = tt
+  every_passes (t ∷ ts) = (passes t, every_passes ts)
+
+  pub passes_all :
+      (ts : List Term) → AllByRecursion P ts → (n i : ℕ) (rest : List ℕ) →
+      F (n + length ts) i (encodes ts ++ rest) ≡ F n (i + sizes ts) rest
+  passes_all ts = row_passes ts (every_passes ts)

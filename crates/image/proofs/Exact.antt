@@ -1,8 +1,8 @@
 -- Reading gives a configuration exactly if the words are its image; so an image has one configuration, and a configuration one image.
-use Rattle.std.proofs.Common.{◌≡◌, ℕ, suc, ◌-◌, ◌%◌, ◌^◌, ◌<◌, ◌≤◌, Bool, true, false, cond, eqb, List, [], ◌∷◌, ◌++◌, length, get_or, drop, replicate, Some, None, sym, refl, ap, ◌∙◌, subst, append_assoc, arith, length-append}
-use lib.ListN.{length-replicate}
+use Rattle.std.proofs.Common.{◌≡◌, ℕ, suc, ◌-◌, ◌%◌, ◌^◌, ◌<◌, false, cond, eqb, List, [], ◌∷◌, ◌++◌, length, get_or, drop, replicate, Some, None, refl, ap, ◌∙◌, subst, append_assoc, arith}
 use Rattle.std.specs.List.{AllByRecursion}
 use Rattle.std.proofs.lemmas.List.{drop_at}
+use Rattle.std.proofs.lemmas.Option.{cond_some}
 use Rattle.calculus.specs.Terms.{Term, unit}
 use Rattle.calculus.specs.Parts.{size}
 use Rattle.calculus.specs.Configurations.{empty, ready, Bindings, Configuration, ◌∣◌}
@@ -10,11 +10,12 @@ use Rattle.layout.specs.Layout.{word_of}
 use Rattle.encoding.specs.Encoding.{encode, Fits}
 use Rattle.encoding.proofs.Parts.{length_encode}
 use Rattle.encoding.proofs.Reading.{terms_in_encode}
-use Rattle.image.specs.Images.{binding_word, bindings_words, words_of, used, image_of, FitsLength, Image}
+use Rattle.image.specs.Images.{binding_word, bindings_words, used, image_of, Image}
 use Rattle.image.specs.Reading.{row_at, is_image, term_in, bindings_in, configuration_in, reading}
 use Rattle.image.specs.Places.{RightBinding}
 use Rattle.image.specs.Laws.{OneConfiguration, OneImage, ReadingExact}
 use Rattle.image.proofs.Reached.{ready_row, empty_bit, ready_bit}
+use Rattle.image.proofs.Keeping.{length_image, image_is as made_image}
 use Rattle.image.proofs.Whole.{encodable_bindings, laid, split_head, image_is, images_are}
 
 pub term_in_encode : (t : Term) → Fits t → (rest : List ℕ) → term_in (encode t ++ rest) ≡ t
@@ -87,13 +88,9 @@ not_image ws h = ap (λ b. cond b (Some (configuration_in ws)) None) h
 pub one_configuration : OneConfiguration
 one_configuration ws c d m n = let p = image_reads ws c m in let q = image_reads ws d n in cc
 
-known : (b : Bool) (x c : Configuration) → cond b (Some x) None ≡ Some c → b ≡ true
-known true x c h = refl
-known false x c h = let z : ◌≡◌ {A = ℕ} 0 1 = cc in absurd (omega arith)
-
 pub reads_image : (ws : List ℕ) (c : Configuration) → reading ws ≡ Some c → Image ws c
 reads_image ws c h =
-    let r = images_are ws (known (is_image ws) (configuration_in ws) c h) in
+    let r = images_are ws (cond_some (is_image ws) (configuration_in ws) c h).0 in
     let p = image_reads ws r.0 r.1 in
     let e : r.0 ≡ c = cc in
     subst (Image ws) e r.1
@@ -101,15 +98,6 @@ reads_image ws c h =
 pub reading_exact : ReadingExact
 reading_exact ws c = (reads_image ws c, image_reads ws c)
 
-pub image_length : (len : ℕ) (c : Configuration) → used c ≤ len → length (image_of len c) ≡ len
-image_length len c h =
-    omega (arith, length-append (words_of c) (replicate (len - used c) 0), length-replicate {A = ℕ} (len - used c) 0)
-
 pub one_image : OneImage
 one_image len c l f =
-    let e = image_length len c f.room in (
-      image_of len c,
-      e,
-      record { encodable = l; fits = subst (λ k. FitsLength k c) (sym e) f; is = ap (λ k. image_of k c) (sym e) },
-      λ o k m. m.is ∙ ap (λ j. image_of j c) k,
-    )
+    (image_of len c, length_image len c f.room, made_image len c l f, λ o k m. m.is ∙ ap (λ j. image_of j c) k)

@@ -2,6 +2,7 @@
 use Rattle.std.proofs.Common.{◌≡◌, ℕ, zero, suc, ◌+◌, ◌*◌, ◌/◌, ◌%◌, ◌^◌, ◌<◌, Bool, true, false, cond, ◌&&◌, eqb, ltb, List, [], ◌∷◌, ◌++◌, length, Some, None, Option, sym, refl, ap, ◌∙◌, append_assoc, append-nil, arith, length-append}
 use Rattle.std.specs.List.{AllByRecursion}
 use Rattle.std.proofs.lemmas.Bool.{and_from, and_parts, lt-ltb, ltb-true, eq-eqb, eqb-true}
+use Rattle.std.proofs.lemmas.Option.{none-some}
 use Rattle.calculus.specs.Terms.{Term}
 use Rattle.calculus.specs.Parts.{parts, size}
 use Rattle.calculus.specs.Configurations.{Binding, empty, ready, Bindings, Formed}
@@ -16,18 +17,14 @@ use Rattle.image.specs.Reading.{kind_at, row_at, label_below, values_follow, may
 use Rattle.image.specs.Places.{Right, RightBinding}
 use Rattle.image.proofs.Rules.{own_words, parts_formed, reach_term}
 
--- nothing is not something
-pub never : {A : Type 0} {e : ℕ} → ◌≡◌ {A = Option ℕ} None (Some e) → A
-never e = let z : ◌≡◌ {A = ℕ} 0 1 = cc in absurd (omega arith)
-
 passed_test : (t : Bool) (x : Option ℕ) (e : ℕ) → cond t x None ≡ Some e → (t ≡ true) × (x ≡ Some e)
 passed_test true x e h = (refl, h)
-passed_test false x e h = never h
+passed_test false x e h = absurd (none-some e h)
 
 -- words that are passed over as terms are words of terms
 reach_scan : (ws : List ℕ) (n p b i e : ℕ) → reach n p b i ws ≡ Some e → (m : ℕ) × (scan p i ws ≡ Some m)
 reach_scan ws n zero b i e h = (i, refl)
-reach_scan [] n (suc p) b i e h = never h
+reach_scan [] n (suc p) b i e h = absurd (none-some e h)
 reach_scan (w ∷ ws) n (suc p) b i e h =
     let q = passed_test (may_stand n w ws) (reach n (p + arity_of w) b (i + 1) ws) e h in
     let k = and_parts (is_term_word w) (label_below n w && values_follow w ws) q.0 in
@@ -159,7 +156,7 @@ one_binding n b i e w (suc (suc m)) ws k z more h = absurd (omega arith)
 some_bindings : (n b i e : ℕ) (ws : List ℕ) → reach n 0 b i ws ≡ Some e → SomeBindings n b i e ws
 some_bindings n zero i e ws h =
     let z : i ≡ e = cc in record { whole = []; rest = ws; right = tt; count = refl; same = refl; ends = omega arith }
-some_bindings n (suc b) i e [] h = never h
+some_bindings n (suc b) i e [] h = absurd (none-some e h)
 some_bindings n (suc b) i e (w ∷ ws) h =
     let q = passed_test (is_binding w) (reach n (w % 2) b (i + 1) ws) e h in
     one_binding n b i e w (w % 2) ws q.0 refl (λ j vs. some_bindings n b j e vs) q.1

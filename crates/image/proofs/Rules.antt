@@ -2,6 +2,7 @@
 use Rattle.std.proofs.Common.{◌≡◌, ℕ, suc, ◌+◌, ◌<◌, Bool, true, false, ◌&&◌, ◌||◌, eqb, ltb, List, [], ◌∷◌, ◌++◌, length, refl, ap, ◌∙◌, append_assoc, arith}
 use Rattle.std.specs.List.{AllByRecursion}
 use Rattle.std.proofs.lemmas.Bool.{and_from, and_parts, lt-ltb, ltb-true}
+use Rattle.std.proofs.Math.Bool.{and-true}
 use Rattle.calculus.specs.Terms.{Term, unit, variable, abstraction, coroutine, application, yield, start, resume, snapshot, fix, atom, operation, instance, resumption, suspension, is_value}
 use Rattle.calculus.specs.Parts.{parts, size}
 use Rattle.calculus.specs.Configurations.{Formed}
@@ -85,10 +86,6 @@ instance_label l r f = let g = under l _ _ f in omega arith
 resumption_label : (l : ℕ) (a b c d : Term) → FirstFits (resumption l a b c d) → label_at (word_of (first_word (resumption l a b c d))) ≡ l
 resumption_label l a b c d f = let g = under l _ _ f in omega arith
 
-and_true : (b : Bool) → (b && true) ≡ b
-and_true true = refl
-and_true false = refl
-
 -- the test on words is the test on terms
 pub own_words : (n : ℕ) (t : Term) → Fits t → (rest : List ℕ) → tested n t (encodes (parts t) ++ rest) ≡ own n t
 own_words n unit f rest = plain n unit f rest refl refl refl
@@ -104,7 +101,7 @@ own_words n (fix a) f rest = plain n (fix a) f.0 rest refl refl refl
 own_words n (atom k p) f rest = plain n (atom k p) f rest refl refl refl
 own_words n (operation o a b) f rest = plain n (operation o a b) f.0 rest refl refl refl
 own_words n (instance l r) f rest =
-    rw ((first_of (instance l r) f).kind, instance_label l r f) (and_true (ltb l n))
+    rw ((first_of (instance l r) f).kind, instance_label l r f) (and-true (ltb l n))
 own_words n (resumption l a b c d) f rest =
     let va = value_past a f.1 in
     let vb = value_past b f.2 in

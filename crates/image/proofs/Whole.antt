@@ -1,5 +1,5 @@
 -- An image passes the tests, and words that pass them are an image.
-use Rattle.std.proofs.Common.{◌≡◌, ℕ, zero, suc, ◌+◌, ◌-◌, ◌^◌, ◌<◌, ◌≤◌, true, false, ◌&&◌, eqb, leb, List, [], ◌∷◌, ◌++◌, length, get_or, drop, replicate, Some, None, Option, sym, refl, ap, ◌∙◌, subst, append_assoc, arith, length-append}
+use Rattle.std.proofs.Common.{◌≡◌, ℕ, zero, suc, ◌+◌, ◌-◌, ◌^◌, ◌<◌, ◌≤◌, true, ◌&&◌, eqb, leb, List, [], ◌∷◌, ◌++◌, length, get_or, drop, replicate, Some, None, Option, sym, refl, ap, ◌∙◌, subst, append_assoc, arith, length-append}
 use Rattle.std.specs.List.{AllByRecursion}
 use Rattle.std.proofs.lemmas.List.{drop_at}
 use Rattle.std.proofs.lemmas.Bool.{and_from, and_parts, eq-eqb, eqb-true, le-leb, leb-true}
@@ -106,18 +106,10 @@ headed_is [] h = absurd (omega arith)
 headed_is (w ∷ ws) h = refl
 
 -- the same by what was found behind the head
-module _ (ws : List ℕ) (n : ℕ) (some : 1 ≤ length ws) (kind : kind_at (get_or ws 0 0) ≡ 23) (many : n ≡ bindings_at (get_or ws 0 0)) where
-  headed_by : (o : Option ℕ) → o ≡ reach n 1 n 1 (drop 1 ws) → headed ws ≡ ends_as_said (get_or ws 0 0) o ws
+module _ (w : ℕ) (ws : List ℕ) (n : ℕ) (kind : eqb (kind_at w) 23 ≡ true) (many : n ≡ bindings_at w) where
+  pub headed_by : (o : Option ℕ) → reach n 1 n 1 ws ≡ o → headed (w ∷ ws) ≡ ends_as_said w o (w ∷ ws)
   headed_by o e =
-      headed_is ws some
-      ∙ (λ i. eqb (kind i) 23 && ends_as_said (get_or ws 0 0) (reach (sym many i) 1 (sym many i) 1 (drop 1 ws)) ws)
-      ∙ ap (λ x. ends_as_said (get_or ws 0 0) x ws) (sym e)
-
-  pub headed_none : None ≡ reach n 1 n 1 (drop 1 ws) → headed ws ≡ false
-  headed_none e = headed_by None e
-
-  pub headed_end : (e u : ℕ) → u ≡ used_at (get_or ws 0 0) → Some e ≡ reach n 1 n 1 (drop 1 ws) → headed ws ≡ (eqb e u && all_zero (drop e ws))
-  headed_end e u k h = headed_by (Some e) h ∙ ap (λ v. eqb e v && all_zero (drop e ws)) (sym k)
+      (λ i. kind i && ends_as_said w (reach (sym many i) 1 (sym many i) 1 ws) (w ∷ ws)) ∙ ap (λ x. ends_as_said w x (w ∷ ws)) e
 
 module _ (image : List ℕ) (c : Configuration) (m : Image image c) where
   -- the term and the bindings end where the head says

@@ -2,6 +2,7 @@
 pub mod Images
 pub mod Reading
 pub mod Seeking
+pub mod Behind
 pub mod Places
 pub mod Stepping
 pub mod Laws

@@ -1,5 +1,6 @@
 -- Reading an image: which words are one, and the configuration that they stand for.
 use Rattle.std.specs.Prelude.{ℕ, zero, suc, ◌+◌, ◌/◌, ◌%◌, ◌^◌, Bool, true, false, cond, ◌&&◌, ◌||◌, List, [], ◌∷◌, length, drop, Some, None, Option, ◌==◌, nat_le, nat_lt, slice_index_or}
+use Rattle.std.specs.List.{list_all}
 use Rattle.calculus.specs.Terms.{Term, unit}
 use Rattle.calculus.specs.Parts.{size}
 use Rattle.calculus.specs.Configurations.{empty, ready, Bindings, Configuration, ◌∣◌}
@@ -56,8 +57,7 @@ reach n (suc p) b i (w ∷ ws) = cond (may_stand n w ws) (reach n (p + arity_of 
 
 -- whether all words are zero
 abbrev pub all_zero : List ℕ → Bool
-all_zero [] = true
-all_zero (w ∷ ws) = w == 0 && all_zero ws
+all_zero ws = list_all (λ w. w == 0) ws
 
 -- the numbers of used words and of bindings that a head has
 abbrev pub used_at : ℕ → ℕ

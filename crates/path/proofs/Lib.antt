@@ -1,7 +1,6 @@
 -- The proofs, each after those that it uses.
-pub mod Passing
 pub mod KindFacts
-mod WalkedWords
+pub mod Unfinished
 pub mod WalkedTerms
 pub mod PausedWords
 pub mod PausedTerms

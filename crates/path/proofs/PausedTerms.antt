@@ -10,7 +10,8 @@ use Rattle.encoding.proofs.Parts.{encode_is, fits_parts}
 use Rattle.encoding.proofs.FirstWord.{first_of}
 use Rattle.image.specs.Reading.{kind_at, value_kind}
 use Rattle.path.specs.Walking.{pause_at}
-use Rattle.path.proofs.Passing.{passes}
+use Rattle.image.proofs.Counting.{passes}
+use Rattle.image.proofs.Rules.{fits_down}
 use Rattle.path.proofs.KindFacts.{value_read, suspension_read}
 use Rattle.path.proofs.PausedWords.{pause_none}
 
@@ -25,7 +26,7 @@ skip_step left t f n i rest =
 pub pause_skips :
     (left : ℕ) (t : Term) → Fits t → (n i : ℕ) (rest : List ℕ) →
     pause_at i left (suc n) (encode t ++ rest) ≡ pause_at (i + size t) left n rest
-pause_skips left t f n i rest = passes (λ m j ws. pause_at j left m ws) (skip_step left) t f n i rest
+pause_skips left t f n i rest = passes (λ m j ws. pause_at j left m ws) Fits fits_down (skip_step left) t f n i rest
 
 -- a term that is looked at
 value_word :

@@ -11,7 +11,8 @@ use Rattle.encoding.proofs.Parts.{encode_is, size_is, by_parts, fits_parts}
 use Rattle.encoding.proofs.FirstWord.{first_of}
 use Rattle.encoding.proofs.Places.{stands_words}
 use Rattle.path.specs.Walking.{walk}
-use Rattle.path.proofs.Passing.{passes_all}
+use Rattle.image.proofs.Counting.{passes_all}
+use Rattle.image.proofs.Rules.{fits_down}
 use Rattle.path.proofs.KindFacts.{value_read, suspension_read, evaluated_read, enough_parts}
 
 -- the place of the path's last term, where the path starts at a term at place i
@@ -125,7 +126,7 @@ value_skipped :
 value_skipped t f i last e rest =
     let l : i + 1 + sizes (parts t) ≡ i + size t = omega (arith, size_is t) in
     ap (λ m. walk (i + 1) last e m (encodes (parts t) ++ rest)) (omega arith)
-    ∙ passes_all (λ n j ws. walk j last e n ws) (skips last e) (parts t) (fits_parts t f).1 0 (i + 1) rest
+    ∙ passes_all (λ n j ws. walk j last e n ws) Fits fits_down (skips last e) (parts t) (fits_parts t f).1 0 (i + 1) rest
     ∙ ap (λ m. walk m last e 0 rest) l
 
 walks_step : (t : Term) → AllByRecursion Walks (parts t) → Walks t

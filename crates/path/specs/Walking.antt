@@ -28,3 +28,11 @@ pause_at i left (suc s) (w ∷ ws) = pause_at (i + 1) left (s + arity_of w) ws
 pause_at i zero zero (w ∷ ws) = None
 pause_at i (suc e) zero (w ∷ ws) =
     cond (value_kind (kind_at w)) (pause_at (i + 1) e (arity_of w) ws) (cond (kind_at w == 14) (Some i) None)
+
+-- over the words from place i on, `left` terms to come and `skip` terms before them: the place of the first of those to come that is no
+-- value
+abbrev pub unfinished : ℕ → ℕ → ℕ → List ℕ → Option ℕ
+unfinished i left skip [] = None
+unfinished i left (suc s) (w ∷ ws) = unfinished (i + 1) left (s + arity_of w) ws
+unfinished i zero zero (w ∷ ws) = None
+unfinished i (suc e) zero (w ∷ ws) = cond (value_kind (kind_at w)) (unfinished (i + 1) e (arity_of w) ws) (Some i)

@@ -2,5 +2,6 @@
 #![tactic(auto)]
 
 pub mod kinds;
+mod parts;
 pub mod pause;
 pub mod place;

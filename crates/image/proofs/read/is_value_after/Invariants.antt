@@ -1,11 +1,9 @@
-use Rattle.std.proofs.Common.{◌≡◌, ◌+◌, ◌-◌, ◌*◌, ◌≤◌, length, drop}
+use Rattle.std.proofs.Common.{◌≡◌, ◌+◌, ◌*◌, ◌≤◌, drop}
 use Rattle.image.specs.Reading.{value_after}
 use Rattle.image.proofs.read.is_value_after.Given as goal
 
-abbrev pub invariant-loop-place : goal.invariant-loop-place
-invariant-loop-place l =
-    (l.place ≤ length l.words) × (l.pending ≤ 3 + 3 * l.place)
-    × (value_after l.pending (drop l.place l.words) ≡ value_after l.terms (drop l.at l.words))
-
-abbrev pub decreases-loop-place : goal.decreases-loop-place
-decreases-loop-place l = length l.words - l.place
+abbrev pub invariant-loop-word : goal.invariant-loop-word
+invariant-loop-word l = record {
+  few : l.pending ≤ l.terms + 3 * l.word-index;
+  same : value_after l.pending (drop l.word-index l.words) ≡ value_after l.terms l.words;
+}

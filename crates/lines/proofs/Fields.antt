@@ -1,6 +1,6 @@
 -- The fields of the words that a line reads, and the terms that stand behind them.
-use Rattle.std.proofs.Common.{◌≡◌, ℕ, ◌+◌, ◌*◌, ◌/◌, ◌%◌, ◌^◌, ◌<◌, Bool, true, ◌&&◌, ltb, List, ◌++◌, get_or, drop, ap, ◌∙◌, arith}
-use Rattle.std.proofs.lemmas.Bool.{and_parts, ltb-true}
+use Rattle.std.proofs.Common.{◌≡◌, ℕ, zero, suc, ◌+◌, ◌*◌, ◌/◌, ◌%◌, ◌^◌, ◌<◌, Bool, true, false, ◌&&◌, eqb, ltb, List, ◌++◌, get_or, drop, sym, refl, ap, ◌∙◌, arith}
+use Rattle.std.proofs.lemmas.Bool.{and_parts, eqb-true, eqb-false, ltb-true}
 use Rattle.calculus.specs.Terms.{Term, abstraction, coroutine, start, atom, operation, instance, resumption}
 use Rattle.calculus.specs.Parts.{parts}
 use Rattle.calculus.specs.Configurations.{Binding, empty, ready, row_of}
@@ -64,6 +64,25 @@ readiness (ready r t) = 1
 pub binding_readiness : (β : Binding) → word_of (binding_word β) % 2 ≡ readiness β
 binding_readiness (empty r) = omega arith
 binding_readiness (ready r t) = omega arith
+
+-- a test of the kind of a word
+pub is_kind : {w v n k : ℕ} → true ≡ eqb (kind_at w) n → w ≡ v → kind_at v ≡ k → k ≡ n
+is_kind {w} {v} {n} {k} t e f = sym (ap kind_at e ∙ f) ∙ eqb-true (kind_at w) n (sym t)
+
+pub no_kind : {w v n k : ℕ} → false ≡ eqb (kind_at w) n → w ≡ v → kind_at v ≡ k → k ≡ n → ⊥
+no_kind {w} {v} {n} {k} t e f z = eqb-false (kind_at w) n (sym t) (ap kind_at e ∙ f ∙ z)
+
+-- a test of whether a binding is ready
+zero_or : (n : ℕ) → n < 2 → (n ≡ 1 → ⊥) → n ≡ 0
+zero_or zero h f = refl
+zero_or (suc zero) h f = absurd (f refl)
+zero_or (suc (suc n)) h f = absurd (omega arith)
+
+pub is_empty : {w v : ℕ} → false ≡ eqb (w % 2) 1 → w ≡ v → v % 2 ≡ 0
+is_empty {w} {v} t e = ap (λ n. n % 2) (sym e) ∙ zero_or (w % 2) (omega arith) (eqb-false (w % 2) 1 (sym t))
+
+pub not_empty : {w v : ℕ} → true ≡ eqb (w % 2) 1 → w ≡ v → v % 2 ≡ 0 → ⊥
+not_empty {w} {v} t e z = let n = eqb-true (w % 2) 1 (sym t) in omega arith
 
 -- the first word of a term that stands at a place, what follows it, and its kind
 module _ (t : Term) (rest : List ℕ) (i : ℕ) (ws : List ℕ) (a : At t rest i ws) where

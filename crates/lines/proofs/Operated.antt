@@ -30,6 +30,12 @@ by_atom G _ (seen_atom k p) e z = z k p
 by_atom G _ (seen_suspension t v) e z = absurd (omega arith)
 by_atom G _ (seen_other t p) e z = plain_not p 10 refl e
 
+-- and so of two
+pub by_atoms :
+    (G : Term → Term → Type 0) (a b : Term) → Viewed a → Viewed b → kind_of_term a ≡ 10 → kind_of_term b ≡ 10 →
+    ((j p k q : ℕ) → G (atom j p) (atom k q)) → G a b
+by_atoms G a b u v e f z = by_atom (λ x. G x b) a u e (λ j p. by_atom (λ y. G (atom j p) y) b v f (λ k q. z j p k q))
+
 module _ (Q : Meaning) (o : ℕ) (μ : Bindings) where
   pub no_first : (a : Term) → Viewed a → (b : Term) → (kind_of_term a ≡ 10 → ⊥) → operates Q o (view a) (view b) μ ≡ None
   no_first _ (seen_abstraction x r t) b e = refl

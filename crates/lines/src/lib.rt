@@ -4,4 +4,5 @@
 pub mod binding_lines;
 pub mod making;
 pub mod operating;
+pub mod redex;
 pub mod term_lines;

@@ -1,27 +1,27 @@
 // The line of an operation, over any quantity set.
-ghost use Rattle.std.specs.Prelude.{◌≡◌, ℕ, ◌+◌, ◌^◌, ◌<◌, length, IfSome};
+ghost use Rattle.std.specs.Prelude.{◌≡◌, ℕ, ◌^◌, ◌<◌, IfSome};
 ghost use Rattle.calculus.specs.Terms.{Term, operation as Operation};
 ghost use Rattle.calculus.specs.Configurations.{Bindings, Configuration};
 ghost use Rattle.calculus.specs.Views.{view};
 ghost use Rattle.calculus.specs.Redexes.{operated, operates};
-ghost use Rattle.image.specs.Images.{used as Used};
-ghost use Rattle.lines.specs.Lines.{Hole, Lined};
+ghost use Rattle.lines.specs.Lines.{Lined};
 ghost use Rattle.lines.specs.Operations.{Operated};
 
 use crate::making::atom_word;
+use crate::redex::Redex;
 use image::locate::past;
 use quantities::QuantitySet;
-use words::fields::{base, kind_number, operation, payload};
-use writing::writer::{copy, get, word};
+use words::fields::{base, operation, payload};
+use words::kinds::Kind;
+use writing::writer::{Writer, get};
 
 // The base and the payload that operation o gives for payload p of base j and payload q of base k, if it takes them.
+// Kept: operands as numbers, in the order in which the definition takes them.
 fn operate<Q: QuantitySet>(set: &Q, o: u8, p: u32, j: u8, q: u32, k: u8) -> Option<(u8, u32)>
     ensures value { (μ : Bindings) → Operated result μ (operated Q.meaning o p j q k (Q.meaning.signature o) μ) }
     ensures bounds { IfSome result (λ w. (w.0 < 8) × (w.1 < 2 ^ 24)) }
 {
-    let Some(s) = set.signature(o) else {
-        return None;
-    };
+    let s = set.signature(o)?;
     if j != s.first {
         return None;
     }
@@ -37,34 +37,40 @@ fn operate<Q: QuantitySet>(set: &Q, o: u8, p: u32, j: u8, q: u32, k: u8) -> Opti
     Some((s.result, set.apply(o, p, q)))
 }
 
-// The operation at place p on two atoms becomes the atom that the set gives.
-pub fn write_operation<Q: QuantitySet>(
-    set: &Q,
-    image: &[u32],
-    spare: &mut [u32],
-    p: usize,
-    used: usize,
-) -> Option<usize>
-    requires short { length spare.old < 2 ^ 32 }
-    requires low { p < 2 ^ 32 }
-    ensures { (c : Configuration) (K : Term → Term) (o : ℕ) (a b : Term) → Hole image.now c p (Operation o a b) K → used ≡ Used c
-        → Lined result spare.old spare.new K (operates Q.meaning o (view a) (view b) c.bindings) }
-{
-    let x = get(image, p + 1);
-    if kind_number(x) != 10 {
-        return None;
+impl Redex<'_> {
+    ghost use Rattle.lines.specs.Standing.{Stands};
+
+    // The operation on two atoms becomes the atom that the set gives.
+    pub fn write_operation<Q: QuantitySet>(&self, set: &Q, spare: &mut [u32]) -> Option<usize>
+        ensures { (c : Configuration) (K : Term → Term) (o : ℕ) (a b : Term)
+            → Stands self.now c (Operation o a b) K
+            → Lined result spare.old spare.new K (operates Q.meaning o (view a) (view b) c.bindings) }
+    {
+        let image = self.image;
+        let place = self.place;
+        let left = get(image, place + 1);
+        if !Kind::Atom.is_of(left) {
+            return None;
+        }
+        let middle = past(image, place + 1);
+        let right = get(image, middle);
+        if !Kind::Atom.is_of(right) {
+            return None;
+        }
+        let number = operation(get(image, place));
+        let (atom_base, atom_payload) = operate(
+            set,
+            number,
+            payload(left),
+            base(left),
+            payload(right),
+            base(right),
+        )?;
+        let stop = past(image, middle);
+        let mut out = Writer::from_place(spare, 1);
+        out.copy(image, 1..place);
+        out.word(atom_word(atom_base, atom_payload));
+        out.copy(image, stop..self.used);
+        Some(out.place())
     }
-    let m = past(image, p + 1);
-    let y = get(image, m);
-    if kind_number(y) != 10 {
-        return None;
-    }
-    let o = operation(get(image, p));
-    let Some((k, v)) = operate(set, o, payload(x), base(x), payload(y), base(y)) else {
-        return None;
-    };
-    let stop = past(image, m);
-    let a = copy(image, 1, p, spare, 1);
-    let b = word(atom_word(k, v), spare, a);
-    Some(copy(image, stop, used, spare, b))
 }

@@ -48,10 +48,10 @@ hole Q image c p L m e =
           );
     }
 
-none_some : {A : Type 0} {q : ℕ} → None ≡ Some q → A
-none_some e = let z : ◌≡◌ {A = ℕ} 0 1 = cc in absurd (omega arith)
+pub none_some : {A B : Type 0} {q : B} → None ≡ Some q → A
+none_some e = cc
 
-some_some : {q r : ℕ} → Some q ≡ Some r → q ≡ r
+pub some_some : {B : Type 0} {q r : B} → Some q ≡ Some r → q ≡ r
 some_some e = cc
 
 frame_kind : (F : Frame) (s : Term) → kind_of_term (plug F s) ≡ 13 → ⊥

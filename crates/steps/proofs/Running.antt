@@ -1,5 +1,5 @@
 -- A run of steps, step by step.
-use Rattle.std.proofs.Common.{◌≡◌, ℕ, suc, ◌+◌, ◌-◌, ◌<◌, Bool, true, false, cond, ◌||◌, eqb, List, length, get_or, Some, None, Ok, Err, Option, Result, sym, refl, ap, ◌∙◌, subst, add-zero, arith}
+use Rattle.std.proofs.Common.{◌≡◌, ℕ, suc, ◌+◌, ◌-◌, ◌<◌, Bool, true, false, cond, ◌||◌, MatchResult, is_ok, eqb, List, length, get_or, Some, None, Ok, Err, Option, Result, sym, refl, ap, ◌∙◌, subst, add-zero, arith}
 use Rattle.faults.specs.declared.Fault.{Fault}
 use Rattle.quantities.specs.Meaning.{Meaning, Lawful as Law}
 use Rattle.calculus.specs.Configurations.{Configuration}
@@ -9,7 +9,7 @@ use Rattle.image.specs.Images.{image_of, Image}
 use Rattle.image.specs.Reading.{kind_at, value_kind}
 use Rattle.image.specs.Stepping.{step_in, rests, Stop, stop_at, one_more, steps_in}
 use Rattle.path.proofs.KindFacts.{value_read, suspension_read}
-use Rattle.steps.specs.Stepped.{StepWritten, RunWritten}
+use Rattle.steps.specs.Stepped.{StepWritten, run_answer, RunWritten}
 use Rattle.image.proofs.Keeping.{step_keeps_images}
 use Rattle.steps.proofs.Stepping.{term_stands}
 
@@ -36,16 +36,43 @@ rests_here image c m =
     (λ j. (ap (λ x. value_kind (kind_at x)) w ∙ value_read c.term f) j
     || (ap (λ x. eqb (kind_at x) 14) w ∙ suspension_read c.term f) j)
 
+-- what the variant of a result says of it
+pub was_ok : {E : Type 0} (r : Result (Unit {0}) E) → true ≡ is_ok r → r ≡ Ok tt
+was_ok (Ok u) e = refl
+was_ok (Err x) e = cc
+
+pub was_err : {A E : Type 0} (r : Result A E) (P : A → Type 0) (Q : E → Type 0) → MatchResult r P Q → false ≡ is_ok r → (x : E) × (r ≡ Err x) × Q x
+was_err (Ok a) P Q m e = absurd (let z : ◌≡◌ {A = Bool} true false = cc in cc)
+was_err (Err x) P Q m e = (x, refl, m)
+
+-- no step yet
+pub none_yet : (Q : Meaning) (first : List ℕ) (n : ℕ) (c : Configuration) → Image first c → SoFar Q first n c 0 first
+none_yet Q first n c m =
+    let z : n ≡ n - 0 = omega arith in
+    let s : Stop = steps_in Q (length first) n c in
+    let e : s.made ≡ 0 + s.made = omega arith in
+    record {
+      last = c;
+      is = m;
+      goes = (λ i. record { made = e i; last = s.last; fault = s.fault }) ∙ ap (λ j. advanced 0 (steps_in Q (length first) j c)) z;
+    }
+
 module _
     (Q : Meaning) (first : List ℕ) (n : ℕ) (c : Configuration) (k : ℕ) (image : List ℕ) (long : length image ≡ length first)
     (f : SoFar Q first n c k image) where
   answered : (o : Option Fault) → steps_in Q (length first) n c ≡ advanced k (stop_at f.last o) →
-      RunWritten (k, o) first image (steps_in Q (length first) n c)
+      RunWritten (run_answer k o) first image (steps_in Q (length first) n c)
   answered o e = record {
-    made = sym (ap (λ s. s.made) e ∙ add-zero k);
-    fault = sym (ap (λ s. s.fault) e);
+    answer = sym (ap (λ s. run_answer s.made s.fault) e ∙ ap (λ j. run_answer j o) (add-zero k));
     is = f.is.is ∙ ap (λ l. image_of l f.last) long ∙ sym (ap (λ s. image_of (length first) s.last) e);
   }
+
+  -- all steps are made
+  pub all_made : n ≡ k → RunWritten (Ok n) first image (steps_in Q (length first) n c)
+  all_made e =
+      let z : n - k ≡ 0 = omega arith in
+      subst (λ j. RunWritten (Ok j) first image (steps_in Q (length first) n c)) (sym e)
+      (answered None (f.goes ∙ ap (λ j. advanced k (steps_in Q (length first) j f.last)) z))
 
   module _ (h : k < n) where
     next_goes : (b : Bool) (r : Result Configuration Fault) → rests f.last.term ≡ b → step_in Q (length first) f.last ≡ r →
@@ -59,29 +86,29 @@ module _
         (elim (er i) [ Err x ↦ stop_at f.last (Some x) | Ok d ↦ one_more (steps_in Q (length first) (n - (k + 1)) d) ])))
 
     -- the term is a value or a suspension
-    pub at_rest : rests f.last.term ≡ true → RunWritten (k, None) first image (steps_in Q (length first) n c)
+    pub at_rest : rests f.last.term ≡ true → RunWritten (Ok k) first image (steps_in Q (length first) n c)
     at_rest e = answered None (next_goes true (step_in Q (length first) f.last) e refl)
 
-    module _ (moves : rests f.last.term ≡ false) (r : Option Fault) (image' : List ℕ) where
+    module _ (moves : rests f.last.term ≡ false) (r : Result (Unit {0}) Fault) (image' : List ℕ) where
       here : StepWritten r image image' (step_in Q (length image) f.last) → StepWritten r image image' (step_in Q (length first) f.last)
       here w = subst (λ l. StepWritten r image image' (step_in Q l f.last)) long w
 
       -- the step is refused
-      pub refused : (x : Fault) → r ≡ Some x → StepWritten r image image' (step_in Q (length image) f.last) →
-          RunWritten (k, Some x) first image' (steps_in Q (length first) n c)
+      pub refused : (x : Fault) → r ≡ Err x → StepWritten r image image' (step_in Q (length image) f.last) →
+          RunWritten (Err (record { fault = x; made = k })) first image' (steps_in Q (length first) n c)
       refused x e w = go (step_in Q (length first) f.last) refl (here w)
         where
           go : (s : Result Configuration Fault) → step_in Q (length first) f.last ≡ s → StepWritten r image image' s →
-              RunWritten (k, Some x) first image' (steps_in Q (length first) n c)
+              RunWritten (Err (record { fault = x; made = k })) first image' (steps_in Q (length first) n c)
           go (Ok d) q u = let u0 = u.0 in let z : ◌≡◌ {A = ℕ} 0 1 = cc in absurd (omega arith)
           go (Err y) q u =
               let u0 = u.0 in
               let same : y ≡ x = cc in
               let a = answered (Some x) (next_goes false (Err x) moves (q ∙ ap Err same)) in
-              subst (λ l. RunWritten (k, Some x) first l (steps_in Q (length first) n c)) (sym u.1) a
+              subst (λ l. RunWritten (Err (record { fault = x; made = k })) first l (steps_in Q (length first) n c)) (sym u.1) a
 
       -- the step is made
-      pub one_further : Law Q → r ≡ None → StepWritten r image image' (step_in Q (length image) f.last) → SoFar Q first n c (k + 1) image'
+      pub one_further : Law Q → r ≡ Ok tt → StepWritten r image image' (step_in Q (length image) f.last) → SoFar Q first n c (k + 1) image'
       one_further law e w = go (step_in Q (length image) f.last) refl w
         where
           go : (s : Result Configuration Fault) → step_in Q (length image) f.last ≡ s → StepWritten r image image' s → SoFar Q first n c (k + 1) image'

@@ -60,18 +60,18 @@ image_written image spare written e m w ys d same low b n hw hy =
     let zeros : length (drop 1 image) - (e - 1) ≡ length image - used d = omega (arith, u, length-drop 1 image) in
     λ j. (hw ∙ (λ s. word_of (W.ImageHead (u s) (n s)))) j ∷ (hy ∙ (λ s. tail s ++ replicate (zeros s) 0)) j
 
-module _ (image image' spare written : List ℕ) (p : ℕ) (r : Option Fault) (same : length image ≡ length spare) (low : 2 ≤ length image) where
+module _ (image image' spare written : List ℕ) (p : ℕ) (r : Result (Unit {0}) Fault) (same : length image ≡ length spare) (low : 2 ≤ length image) where
   by_result : (x y : Result Configuration Fault) → x ≡ y → StepWritten r image image' y → StepWritten r image image' x
   by_result x y e s = subst (StepWritten r image image') (sym e) s
 
   -- no line applies
-  pub no_rule : (ℓ : Option Configuration) → r ≡ Some (fault_of NoRule p) → image' ≡ image → Turned None spare written ℓ →
+  pub no_rule : (ℓ : Option Configuration) → r ≡ Err (fault_of NoRule p) → image' ≡ image → Turned None spare written ℓ →
       StepWritten r image image' (step_result (length image) p ℓ)
   no_rule ℓ e i t = by_result _ _ (ap (step_result (length image) p) t) (e, i)
 
   module _ (e m : ℕ) (ℓ : Option Configuration) (t : Turned (Some (e, m)) spare written ℓ) where
     -- the labels are used up
-    pub labels : most_bindings < m → r ≡ Some (fault_of Labels p) → image' ≡ image → StepWritten r image image' (step_result (length image) p ℓ)
+    pub labels : most_bindings < m → r ≡ Err (fault_of Labels p) → image' ≡ image → StepWritten r image image' (step_result (length image) p ℓ)
     labels h g i =
         let d = t.0 in
         let n = t.2 in
@@ -89,7 +89,7 @@ module _ (image image' spare written : List ℕ) (p : ℕ) (r : Option Fault) (s
         ap (step_result (length image) p) t.1 ∙ ap (λ b. cond b (Err (fault_of Labels p)) y) x
 
     -- the image is full
-    pub overfull : m ≤ most_bindings → length image < e → r ≡ Some (fault_of ImageFull p) → image' ≡ image →
+    pub overfull : m ≤ most_bindings → length image < e → r ≡ Err (fault_of ImageFull p) → image' ≡ image →
         StepWritten r image image' (step_result (length image) p ℓ)
     overfull h f g i =
         let b = t.3.full (omega arith) in
@@ -97,7 +97,7 @@ module _ (image image' spare written : List ℕ) (p : ℕ) (r : Option Fault) (s
         by_result _ _ (few_enough h ∙ ap (λ b. cond b (Err (fault_of ImageFull p)) (Ok t.0)) x) (g, i)
 
     -- the step is made
-    pub is_made : m ≤ most_bindings → e ≤ length image → r ≡ None → (w : ℕ) (ys : List ℕ) → w ≡ word_of (W.ImageHead e m) →
+    pub is_made : m ≤ most_bindings → e ≤ length image → r ≡ Ok tt → (w : ℕ) (ys : List ℕ) → w ≡ word_of (W.ImageHead e m) →
         ys ≡ take (e - 1) (drop 1 written) ++ replicate (length (drop 1 image) - (e - 1)) 0 → image' ≡ w ∷ ys →
         StepWritten r image image' (step_result (length image) p ℓ)
     is_made k f g w ys hw hy i =

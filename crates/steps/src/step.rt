@@ -9,6 +9,7 @@ use crate::turn::write_line;
 use faults::Fault;
 use faults::numbers::FaultNumber;
 use lines::making::head_word;
+use lines::redex::Redex;
 use path::place::step_place;
 use quantities::QuantitySet;
 use words::fields::{bindings, used};
@@ -19,7 +20,8 @@ const MOST_BINDINGS: usize = 4095;
 
 // Makes the one step of an image. A step that cannot be made is refused, and the image is as it was. The spare words are as the step left
 // them.
-pub fn step<Q: QuantitySet>(set: &Q, image: &mut [u32], spare: &mut [u32]) -> Option<Fault>
+// Kept: the bounds of image and spare, as at `run_steps`.
+pub fn step<Q: QuantitySet>(set: &Q, image: &mut [u32], spare: &mut [u32]) -> Result<(), Fault>
     requires low { 2 ≤ length image.old }
     requires high { length image.old ≤ 2 ^ 14 }
     requires same { length image.old ≡ length spare.old }
@@ -28,23 +30,22 @@ pub fn step<Q: QuantitySet>(set: &Q, image: &mut [u32], spare: &mut [u32]) -> Op
 {
     let head = image[0];
     let p = step_place(image, 1);
-    let Some((e, m)) = write_line(
-        set,
+    let redex = Redex {
         image,
-        spare,
-        p,
-        bindings(head) as usize,
-        used(head) as usize,
-    ) else {
-        return Some(Fault::new(FaultNumber::NoRule, p));
+        place: p,
+        bindings: bindings(head) as usize,
+        used: used(head) as usize,
+    };
+    let Some((e, m)) = write_line(set, &redex, spare) else {
+        return Err(Fault::new(FaultNumber::NoRule, p));
     };
     if m > MOST_BINDINGS {
-        return Some(Fault::new(FaultNumber::Labels, p));
+        return Err(Fault::new(FaultNumber::Labels, p));
     }
     if e > image.len() {
-        return Some(Fault::new(FaultNumber::ImageFull, p));
+        return Err(Fault::new(FaultNumber::ImageFull, p));
     }
     image[0] = head_word(e, m);
     take_over(&mut image[1..], &spare[1..], e.saturating_sub(1));
-    None
+    Ok(())
 }

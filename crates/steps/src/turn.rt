@@ -1,64 +1,48 @@
 // Which line of a step applies.
-ghost use Rattle.std.specs.Prelude.{◌≡◌, ◌^◌, ◌<◌, length, Some, None, MatchOption};
+ghost use Rattle.std.specs.Prelude.{◌≡◌, length};
 ghost use Rattle.calculus.specs.Configurations.{Configuration};
 ghost use Rattle.calculus.specs.Places.{place};
 ghost use Rattle.calculus.specs.Next.{next};
 ghost use Rattle.image.specs.Images.{Image, used as Used};
 ghost use Rattle.lines.specs.Lines.{Turned};
 
-use lines::binding_lines::{write_capture, write_copy, write_end, write_resume, write_start};
-use lines::operating::write_operation;
-use lines::term_lines::{write_apply, write_fix, write_pause, write_yield};
+use lines::redex::Redex;
 use path::kinds::evaluated;
 use path::pause::pause_at;
 use quantities::QuantitySet;
-use words::fields::kind_number;
+use words::kinds::Kind;
 use writing::writer::get;
 
-// The place with a number of bindings.
-fn with(r: Option<usize>, n: usize) -> Option<(usize, usize)>
-    ensures { MatchOption r (result ≡ None) (λ e. result ≡ Some (e, n)) }
-{
-    match r {
-        Some(e) => Some((e, n)),
-        None => None,
-    }
-}
-
-// Writes the words of the successor from word 1 on, where the step is at place p of an image with n bindings and so many used words. Answers
-// where the words end, and how many bindings there are then; nothing where no line applies.
+// Writes the words of the successor from word 1 on, where the step is at the place of the redex. Answers where the words end, and how many
+// bindings there are then; nothing where no line applies.
 pub fn write_line<Q: QuantitySet>(
     set: &Q,
-    image: &[u32],
+    redex: &Redex,
     spare: &mut [u32],
-    p: usize,
-    n: usize,
-    used: usize,
 ) -> Option<(usize, usize)>
-    requires brief { length image.now < 2 ^ 32 }
-    requires short { length spare.old < 2 ^ 32 }
-    requires low { p < 2 ^ 32 }
-    requires few { n < 2 ^ 12 }
-    ensures { (c : Configuration) → Image image.now c → p ≡ place c.term → used ≡ Used c → n ≡ length c.bindings
+    ensures { (c : Configuration) → Image redex.now.image.now c → redex.now.place ≡ place c.term → redex.now.used ≡ Used c
+        → redex.now.bindings ≡ length c.bindings
         → Turned result spare.old spare.new (next Q.meaning c.term c.bindings) }
 {
-    let w = get(image, p);
-    let k = kind_number(w);
-    if let Some(q) = pause_at(image, p + 1, evaluated(w)) {
-        if k == 13 {
-            return with(write_capture(image, spare, p, used), n);
+    let bindings = redex.bindings;
+    let word = get(redex.image, redex.place);
+    if let Some(inner) = pause_at(redex.image, redex.place + 1, evaluated(word)) {
+        if Kind::Resumption.is_of(word) {
+            return redex.write_capture(spare).map(|end| (end, bindings));
         }
-        return with(Some(write_pause(image, spare, p, q, used)), n);
+        return Some((redex.write_pause(spare, inner), bindings));
     }
-    match k {
-        4 => with(write_apply(image, spare, p, used), n),
-        5 => with(Some(write_yield(image, spare, p, used)), n),
-        6 => with(write_start(image, spare, p, n, used), n + 1),
-        7 => with(write_resume(image, spare, p, used), n),
-        8 => with(write_copy(image, spare, p, n, used), n + 1),
-        9 => with(write_fix(image, spare, p, used), n),
-        11 => with(write_operation(set, image, spare, p, used), n),
-        13 => with(write_end(image, spare, p, used), n),
+    let kind = Kind::of_word(word)?;
+    // Kept: the number of bindings in each arm, since two of the lines add one.
+    match kind {
+        Kind::Application => redex.write_apply(spare).map(|end| (end, bindings)),
+        Kind::Yield => Some((redex.write_yield(spare), bindings)),
+        Kind::Start => redex.write_start(spare).map(|end| (end, bindings + 1)),
+        Kind::Resume => redex.write_resume(spare).map(|end| (end, bindings)),
+        Kind::Snapshot => redex.write_copy(spare).map(|end| (end, bindings + 1)),
+        Kind::Fix => redex.write_fix(spare).map(|end| (end, bindings)),
+        Kind::Operation => redex.write_operation(set, spare).map(|end| (end, bindings)),
+        Kind::Resumption => redex.write_end(spare).map(|end| (end, bindings)),
         _ => None,
     }
 }

@@ -1,9 +1,9 @@
 -- Words written one after another, and the parts of words that are written.
-use Rattle.std.proofs.Common.{◌≡◌, ℕ, ◌+◌, ◌-◌, ◌<◌, ◌≤◌, List, [], ◌∷◌, ◌++◌, length, get_or, take, drop, Some, None, Option, sym, refl, ap, ◌∙◌, subst, ⊎_elim, add-zero, arith, length-append, length-take, MatchOption}
+use Rattle.std.proofs.Common.{◌≡◌, ℕ, ◌+◌, ◌-◌, List, ◌∷◌, ◌++◌, length, get_or, take, drop, sym, refl, ap, ◌∙◌, subst, ⊎_elim, add-zero, arith, length-append}
 use Rattle.std.specs.List.{between}
-use Rattle.std.proofs.lemmas.List.{get_or-drop, drop-drop, drop_at, drop_all, take_at, take_all, take_rest, length-drop}
+use Rattle.std.proofs.lemmas.List.{get_or-drop, drop-drop, drop_at, take_at}
 use Rattle.std.proofs.lemmas.Bool.{cases_lt}
-use Rattle.writing.specs.Writing.{Put, Wrote, Built}
+use Rattle.writing.specs.Writing.{Built}
 use Rattle.writing.proofs.Puts.{put_put}
 
 -- one after another
@@ -28,23 +28,6 @@ pub ◌▸◌ : {a b c : List ℕ} {at : ℕ} {x y : List ℕ} {e f : ℕ} → B
 pub rewritten : {a b : List ℕ} {at : ℕ} {x y : List ℕ} {e : ℕ} → x ≡ y → Built a at x b e → Built a at y b e
 rewritten {a} {b} {at} {x} {y} {e} q p = subst (λ l. Built a at l b e) q p
 
--- from what is written or does not fit
-pub built_put :
-    (r : Option ℕ) (out : List ℕ) (at : ℕ) (new out' : List ℕ) (e : ℕ) → length out' ≡ length out → at ≤ length out →
-    Wrote r out at new out' → MatchOption r (e ≡ length out + 1) (λ f. e ≡ f) → Built out at new out' e
-built_put None out at new out' e s h w q =
-    record { cap = omega arith; same = s; put = λ g. absurd (omega arith); full = λ g. w }
-built_put (Some f) out at new out' e s h w q =
-    record {
-      cap = omega (arith, w.room);
-      same = s;
-      put = λ g. subst (Put out at new out') (sym q) w;
-      full = λ g. absurd (omega (arith, w.room));
-    }
-
-pub built_full : (out : List ℕ) (at : ℕ) (new : List ℕ) → length out < at → at ≤ length out + 1 → Built out at new out at
-built_full out at new h g = record { cap = omega arith; same = refl; put = λ k. absurd (omega arith); full = λ k. omega arith }
-
 -- the words that stand at a place, and what stands behind them
 pub cut :
     (ws xs rest : List ℕ) (i e : ℕ) → e ≡ i + length xs → drop i ws ≡ xs ++ rest → (between i e ws ≡ xs) × (drop e ws ≡ rest)
@@ -60,16 +43,3 @@ next_word ws i w xs e = (
   ap (λ k. get_or ws k 0) (sym (add-zero i)) ∙ sym (get_or-drop i ws 0 0) ∙ ap (λ l. get_or l 0 0) e,
   sym (drop-drop 1 i ws) ∙ ap (drop 1) e,
 )
-
--- parts of words: none, and as far as there are any
-pub no_part : (xs : List ℕ) (i j : ℕ) → j ≤ i → [] ≡ between i j xs
-no_part xs i j h = let k : j - i ≡ 0 = omega arith in sym (ap (λ n. take n (drop i xs)) k)
-
-pub past_part : (xs : List ℕ) (i j : ℕ) → length xs ≤ i → [] ≡ between i j xs
-past_part xs i j h = sym (ap (take (j - i)) (drop_all i xs h) ∙ take_all (j - i) [] (omega arith))
-
-pub long_part : (xs : List ℕ) (i j : ℕ) → i < length xs → length xs < j → take (length xs - i) (drop i xs) ≡ between i j xs
-long_part xs i j h g = take_rest xs i ∙ sym (take_all (j - i) (drop i xs) (omega (arith, length-drop i xs)))
-
-pub brief_part : (xs : List ℕ) (i j : ℕ) → length (between i j xs) ≤ length xs
-brief_part xs i j = omega (arith, length-take (j - i) (drop i xs), length-drop i xs)

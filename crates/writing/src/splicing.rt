@@ -2,9 +2,10 @@
 ghost use Rattle.std.specs.Prelude.{◌≡◌, ◌-◌, ◌≤◌, ◌++◌, length, take, replicate};
 ghost use Rattle.writing.specs.Writing.{Wrote};
 
+// Kept: apart from the writer, so that the one copy of words into a slice is proved by itself.
 // Copies words from a place on. Nothing is answered where they do not fit.
 pub fn put(out: &mut [u32], at: usize, new: &[u32]) -> Option<usize>
-    requires within { at ≤ length out.old }
+    requires { at ≤ length out.old }
     ensures { Wrote result out.old at new.now out.new }
 {
     if new.len() > out.len() - at {
@@ -14,20 +15,13 @@ pub fn put(out: &mut [u32], at: usize, new: &[u32]) -> Option<usize>
     Some(at + new.len())
 }
 
-// Sets each word to zero.
-pub fn zero(words: &mut [u32])
-    ensures { words.new ≡ replicate (length words.old) 0 }
-{
-    words.fill(0);
-}
-
 // A term's words, and then zeros.
 pub fn write_term(tail: &mut [u32], term: &[u32])
-    requires within { length term.now ≤ length tail.old }
+    requires { length term.now ≤ length tail.old }
     ensures { tail.new ≡ term.now ++ replicate (length tail.old - length term.now) 0 }
 {
     tail[0..term.len()].copy_from_slice(term);
-    zero(&mut tail[term.len()..]);
+    tail[term.len()..].fill(0);
 }
 
 // The first n of the new words, and then zeros.

@@ -1,100 +1,112 @@
-// Words written one after another: each function answers the place behind what it wrote. Where it does not fit, that is the place behind
-// the end of the slice, and nothing fits from there on.
+// Words written one after another into a lent slice.
 ghost use Rattle.std.specs.Prelude.{◌≡◌, ◌+◌, ◌^◌, ◌<◌, ◌≤◌, [], ◌∷◌, length, slice_index};
 ghost use Rattle.std.specs.List.{between};
 ghost use Rattle.writing.specs.Writing.{Built};
 ghost use Rattle.writing.specs.Replacing.{replaced};
 
-use crate::replacing::substitute;
+use crate::replacing::{is_free, shade};
 use crate::splicing::put;
+use std::ops::Range;
 
 // The word at a place, 0 behind the end.
+// Kept: a word in every case, since each caller asks at a place among the words, and a function that cannot fail stays one.
 pub fn get(words: &[u32], i: usize) -> u32
     ensures { result ≡ slice_index words.now i }
 {
-    if i < words.len() { words[i] } else { 0 }
+    words.get(i).copied().unwrap_or(0)
 }
 
 // The words from one place up to another, as far as there are any.
-pub fn part(words: &[u32], from: usize, to: usize) -> &[u32]
-    ensures value { result.now ≡ between «from» to words.now }
+pub fn part(words: &[u32], range: Range<usize>) -> &[u32]
+    ensures value { result.now ≡ between range.start range.end words.now }
     ensures brief { length result.now ≤ length words.now }
 {
-    if from >= words.len() {
-        &words[0..0]
-    } else if to <= from {
-        &words[0..0]
-    } else if to > words.len() {
-        &words[from..]
-    } else {
-        &words[from..to]
-    }
+    let end = range.end.min(words.len());
+    &words[range.start.min(end)..end]
 }
 
-// Writes words from a place on.
-pub fn push(out: &mut [u32], at: usize, new: &[u32]) -> usize
-    requires within { at ≤ length out.old + 1 }
-    requires short { length out.old < 2 ^ 32 }
-    ensures { Built out.old at new.now out.new result }
-{
-    if at > out.len() {
-        return at;
-    }
-    match put(out, at, new) {
-        Some(e) => e,
-        None => out.len() + 1,
-    }
-}
-
-// Writes the words of a body with those of a value for the variable x.
-pub fn push_body(out: &mut [u32], at: usize, body: &[u32], x: u16, value: &[u32]) -> usize
-    requires within { at ≤ length out.old + 1 }
-    requires short { length out.old < 2 ^ 32 }
-    requires brief { length body.now < 2 ^ 32 }
-    ensures { Built out.old at (replaced x value.now 0 body.now) out.new result }
-{
-    if at > out.len() {
-        return at;
-    }
-    match substitute(body, x, value, out, at) {
-        Some(e) => e,
-        None => out.len() + 1,
-    }
-}
-
-// Writes the words from one place up to another.
-pub fn copy(words: &[u32], from: usize, to: usize, out: &mut [u32], at: usize) -> usize
-    requires within { at ≤ length out.old + 1 }
-    requires short { length out.old < 2 ^ 32 }
-    ensures { Built out.old at (between «from» to words.now) out.new result }
-{
-    push(out, at, part(words, from, to))
-}
-
-// Writes one word.
-pub fn word(w: u32, out: &mut [u32], at: usize) -> usize
-    requires within { at ≤ length out.old + 1 }
-    requires short { length out.old < 2 ^ 32 }
-    ensures { Built out.old at (w ∷ []) out.new result }
-{
-    push(out, at, &[w])
-}
-
-// Writes the words from one place up to another, with those between two others for the variable x.
-pub fn copy_body(
-    words: &[u32],
-    from: usize,
-    to: usize,
-    x: u16,
-    first: usize,
-    last: usize,
-    out: &mut [u32],
+// Kept: that the slice stays is an equation in each method; a name for it would be no shorter.
+// Writes words one after another into a lent slice. Words that do not fit are not all written: the place is then the one behind the end of
+// the slice, and nothing fits from there on.
+// Kept: a place behind the end, and no Option, since a line of a step answers None where it does not apply.
+#[derive(Drop)]
+pub struct Writer<'a> {
+    out: &'a mut [u32],
     at: usize,
-) -> usize
-    requires brief { length words.now < 2 ^ 32 }
-    requires within { at ≤ length out.old + 1 }
-    requires short { length out.old < 2 ^ 32 }
-    ensures { Built out.old at (replaced x (between first last words.now) 0 (between «from» to words.now)) out.new result }
-{
-    push_body(out, at, part(words, from, to), x, part(words, first, last))
+    ghost within: { at ≤ length out.now + 1 },
+}
+
+impl<'a> Writer<'a> {
+    // A writer from a place on.
+    pub fn from_place(out: &'a mut [u32], at: usize) -> Self
+        requires { at ≤ length out.old + 1 }
+        ensures place { result.at ≡ at }
+        ensures lent { result.out ≡ out.entry }
+    {
+        Writer { out, at }
+    }
+
+    // The place behind what is written.
+    pub fn place(&self) -> usize
+        ensures { result ≡ self.now.at }
+    {
+        let Writer { at, .. } = self;
+        *at
+    }
+
+    // Writes words.
+    pub fn push(&mut self, new: &[u32])
+        ensures all { Built self.old.out.now self.old.at new.now self.new.out.now self.new.at }
+        ensures same { self.new.out.ghost_name ≡ self.old.out.ghost_name }
+    {
+        if self.at > self.out.len() {
+            return;
+        }
+        self.at = put(self.out, self.at, new).unwrap_or(self.out.len() + 1);
+    }
+
+    // Writes the words of a body with those of a value for the variable x.
+    pub fn push_body(&mut self, body: &[u32], x: u16, value: &[u32])
+        ensures all { Built self.old.out.now self.old.at (replaced x value.now 0 body.now) self.new.out.now self.new.at }
+        ensures same { self.new.out.ghost_name ≡ self.old.out.ghost_name }
+    {
+        let mut shaded = 0;
+        for word in body {
+            if is_free(x, shaded, *word) {
+                self.push(value);
+            } else {
+                self.word(*word);
+                shaded = shade(x, shaded, *word);
+            }
+        }
+    }
+
+    // Writes one word.
+    pub fn word(&mut self, word: u32)
+        ensures all { Built self.old.out.now self.old.at (word ∷ []) self.new.out.now self.new.at }
+        ensures same { self.new.out.ghost_name ≡ self.old.out.ghost_name }
+    {
+        if self.at < self.out.len() {
+            self.out[self.at] = word;
+            self.at += 1;
+        } else {
+            self.at = self.out.len() + 1;
+        }
+    }
+
+    // Writes the words from one place up to another.
+    pub fn copy(&mut self, words: &[u32], range: Range<usize>)
+        ensures all { Built self.old.out.now self.old.at (between range.start range.end words.now) self.new.out.now self.new.at }
+        ensures same { self.new.out.ghost_name ≡ self.old.out.ghost_name }
+    {
+        self.push(part(words, range));
+    }
+
+    // Writes the words from one place up to another, with those between two others for the variable x.
+    pub fn copy_body(&mut self, words: &[u32], body: Range<usize>, x: u16, value: Range<usize>)
+        ensures all { Built self.old.out.now self.old.at (replaced x (between value.start value.end words.now) 0 (between body.start body.end words.now)) self.new.out.now self.new.at }
+        ensures same { self.new.out.ghost_name ≡ self.old.out.ghost_name }
+    {
+        self.push_body(part(words, body), x, part(words, value));
+    }
 }

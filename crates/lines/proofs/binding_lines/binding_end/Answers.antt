@@ -1,12 +1,12 @@
-use Rattle.std.proofs.Common.{◌%◌, sym, ap, ◌∙◌}
+use Rattle.lines.proofs.Fields.{is_empty, not_empty}
 use Rattle.lines.proofs.Instances.{end_empty, end_ready}
 use Rattle.lines.proofs.binding_lines.binding_end.Goals as goal
 
-pub returns-then-get-eq0 : goal.returns-then-get-eq0
-returns-then-get-eq0 c = λ k l β b.
-    end_empty c.args.image.now k l β c.args.q b (ap (λ w. w % 2) (sym c.get.ensures) ∙ c.if-get-eq0.true)
+pub returns-then-not-ready : goal.returns-then-not-ready
+returns-then-not-ready c = λ k l β b.
+    end_empty c.args.image.now k l β c.args.binding b (is_empty c.if-not-ready.ensures c.get.ensures)
 
-pub returns-else-get-eq0 : goal.returns-else-get-eq0
-returns-else-get-eq0 c = λ k l β b.
-    end_ready c.args.image.now k l β c.args.q c.past.result b
-    (λ z. c.if-get-eq0.false (ap (λ w. w % 2) c.get.ensures ∙ z)) c.past.ensures.value
+pub returns-else-not-ready : goal.returns-else-not-ready
+returns-else-not-ready c = λ k l β b.
+    end_ready c.args.image.now k l β c.args.binding c.past.result b (not_empty c.if-not-ready.ensures c.get.ensures)
+    c.past.ensures.value

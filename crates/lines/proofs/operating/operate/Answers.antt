@@ -1,20 +1,22 @@
-use Rattle.std.proofs.Common.{[], Some, sym, ap, ◌∙◌, arith}
+use Rattle.std.proofs.Common.{[], Some, sym, ap, ◌∙◌, arith, rules}
 use Rattle.calculus.specs.Terms.{atom}
 use Rattle.calculus.specs.Configurations.{◌∣◌}
 use Rattle.lines.proofs.Operated.{unsigned, other_first, other_second, first_not_held, second_not_held, gives, small}
 use Rattle.lines.proofs.operating.operate.Goals as goal
 
-pub returns-in_default : goal.returns-in_default
-returns-in_default g c = record {
-  value = λ μ. unsigned g.Q.QuantitySet.meaning c.args.o c.args.p c.args.j c.args.q c.args.k μ c.in_default.ensures;
-  bounds = tt;
+pub returns-in_err-s : goal.returns-in_err-s
+returns-in_err-s g c = record {
+  value = λ μ.
+      let u = unsigned g.Q.QuantitySet.meaning c.args.o c.args.p c.args.j c.args.q c.args.k μ c.in_err-s.ensures in
+      search rules;
+  bounds = search rules;
 }
 
 pub returns-then-j-s : goal.returns-then-j-s
 returns-then-j-s g c = record {
   value = λ μ.
       other_first g.Q.QuantitySet.meaning c.args.o c.args.p c.args.j c.args.q c.args.k μ
-      c.in-Some.s c.in-Some.ensures c.if-j-s.true;
+      c.in_ok-s.s c.in_ok-s.ensures c.if-j-s.true;
   bounds = tt;
 }
 
@@ -22,7 +24,7 @@ pub returns-then-k-s : goal.returns-then-k-s
 returns-then-k-s g c = record {
   value = λ μ.
       other_second g.Q.QuantitySet.meaning c.args.o c.args.p c.args.j c.args.q c.args.k μ
-      c.in-Some.s c.in-Some.ensures c.if-j-s.false c.if-k-s.true;
+      c.in_ok-s.s c.in_ok-s.ensures c.if-j-s.false c.if-k-s.true;
   bounds = tt;
 }
 
@@ -30,7 +32,7 @@ pub returns-then-not-holds : goal.returns-then-not-holds
 returns-then-not-holds g c = record {
   value = λ μ.
       first_not_held g.Q.QuantitySet.meaning c.args.o c.args.p c.args.j c.args.q c.args.k μ
-      c.in-Some.s c.in-Some.ensures c.if-j-s.false c.if-k-s.false (sym c.if-not-holds.ensures);
+      c.in_ok-s.s c.in_ok-s.ensures c.if-j-s.false c.if-k-s.false (sym c.if-not-holds.ensures);
   bounds = tt;
 }
 
@@ -38,7 +40,7 @@ pub returns-then-not-holds-2 : goal.returns-then-not-holds-2
 returns-then-not-holds-2 g c = record {
   value = λ μ.
       second_not_held g.Q.QuantitySet.meaning c.args.o c.args.p c.args.j c.args.q c.args.k μ
-      c.in-Some.s c.in-Some.ensures c.if-j-s.false c.if-k-s.false
+      c.in_ok-s.s c.in_ok-s.ensures c.if-j-s.false c.if-k-s.false
       (sym c.if-not-holds.ensures) (sym c.if-not-holds-2.ensures);
   bounds = tt;
 }
@@ -47,12 +49,12 @@ pub returns : goal.returns
 returns g c = record {
   value = λ μ.
       gives g.Q.QuantitySet.meaning c.args.o c.args.p c.args.j c.args.q c.args.k μ
-      c.in-Some.s c.in-Some.ensures c.if-j-s.false c.if-k-s.false
+      c.in_ok-s.s c.in_ok-s.ensures c.if-j-s.false c.if-k-s.false
       (sym c.if-not-holds.ensures) (sym c.if-not-holds-2.ensures)
-      ∙ ap (λ x. Some (atom c.in-Some.s.result x ∣ μ)) (sym c.apply.ensures);
+      ∙ ap (λ x. Some (atom c.in_ok-s.s.result x ∣ μ)) (sym c.apply.ensures);
   bounds =
       let s = small g.Q.QuantitySet.meaning c.args.o c.args.p c.args.j c.args.q c.args.k []
-      c.in-Some.s c.in-Some.ensures c.if-j-s.false c.if-k-s.false
+      c.in_ok-s.s c.in_ok-s.ensures c.if-j-s.false c.if-k-s.false
       (sym c.if-not-holds.ensures) (sym c.if-not-holds-2.ensures) g.met.Q.QuantitySet.lawful in
       (s.0, omega (arith, s.1, c.apply.ensures));
 }

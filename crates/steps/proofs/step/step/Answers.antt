@@ -1,4 +1,4 @@
-use Rattle.std.proofs.Common.{◌-◌, set, Some, None, refl, ap, ◌∙◌, arith, length-set}
+use Rattle.std.proofs.Common.{◌-◌, set, Ok, Err, refl, ap, ◌∙◌, arith, length-set}
 use borrow.Rule.Slice.PartMut.{put_mid}
 use Rattle.faults.specs.declared.numbers.FaultNumber.TheVariants.{Labels, ImageFull, NoRule}
 use Rattle.faults.specs.Faults.{fault_of}
@@ -15,8 +15,8 @@ returns-in_default g c = λ k m.
     let p = place_is c.step_place-p.result k (c.step_place-p.ensures.value k.term (term_stands c.args.image.now k m)) in
     let t = c.in_default.ensures k m p (c.used.ensures ∙ l.head.used) (c.bindings.ensures ∙ l.head.bindings) in
     no_rule c.args.image.now c.args.image.now c.args.spare.now c.write_line.new.spare (place k.term)
-    (Some c.new.result) c.requires.same c.requires.low (next g.Q.QuantitySet.meaning k.term k.bindings)
-    (ap Some (c.new.ensures ∙ ap (fault_of NoRule) p)) refl t
+    (Err c.new.result) c.requires.same c.requires.low (next g.Q.QuantitySet.meaning k.term k.bindings)
+    (ap Err (c.new.ensures ∙ ap (fault_of NoRule) p)) refl t
 
 pub returns-then-m-gt-MOST_BINDINGS : goal.returns-then-m-gt-MOST_BINDINGS
 returns-then-m-gt-MOST_BINDINGS g c = λ k m.
@@ -24,9 +24,9 @@ returns-then-m-gt-MOST_BINDINGS g c = λ k m.
     let p = place_is c.step_place-p.result k (c.step_place-p.ensures.value k.term (term_stands c.args.image.now k m)) in
     let t = c.in-Some.ensures k m p (c.used.ensures ∙ l.head.used) (c.bindings.ensures ∙ l.head.bindings) in
     labels c.args.image.now c.args.image.now c.args.spare.now c.write_line.new.spare (place k.term)
-    (Some c.new-then-m-gt-MOST_BINDINGS.result) c.requires.same c.requires.low c.in-Some.e c.in-Some.m
+    (Err c.new-then-m-gt-MOST_BINDINGS.result) c.requires.same c.requires.low c.in-Some.e c.in-Some.m
     (next g.Q.QuantitySet.meaning k.term k.bindings) t c.if-m-gt-MOST_BINDINGS.true
-    (ap Some (c.new-then-m-gt-MOST_BINDINGS.ensures ∙ ap (fault_of Labels) p)) refl
+    (ap Err (c.new-then-m-gt-MOST_BINDINGS.ensures ∙ ap (fault_of Labels) p)) refl
 
 pub returns-then-e-image : goal.returns-then-e-image
 returns-then-e-image g c = λ k m.
@@ -34,9 +34,9 @@ returns-then-e-image g c = λ k m.
     let p = place_is c.step_place-p.result k (c.step_place-p.ensures.value k.term (term_stands c.args.image.now k m)) in
     let t = c.in-Some.ensures k m p (c.used.ensures ∙ l.head.used) (c.bindings.ensures ∙ l.head.bindings) in
     overfull c.args.image.now c.args.image.now c.args.spare.now c.write_line.new.spare (place k.term)
-    (Some c.new-then-e-image.result) c.requires.same c.requires.low c.in-Some.e c.in-Some.m
+    (Err c.new-then-e-image.result) c.requires.same c.requires.low c.in-Some.e c.in-Some.m
     (next g.Q.QuantitySet.meaning k.term k.bindings) t c.if-m-gt-MOST_BINDINGS.false c.if-e-image.true
-    (ap Some (c.new-then-e-image.ensures ∙ ap (fault_of ImageFull) p)) refl
+    (ap Err (c.new-then-e-image.ensures ∙ ap (fault_of ImageFull) p)) refl
 
 pub returns : goal.returns
 returns g c = λ k m.
@@ -45,7 +45,7 @@ returns g c = λ k m.
     let t = c.in-Some.ensures k m p (c.used.ensures ∙ l.head.used) (c.bindings.ensures ∙ l.head.bindings) in
     let w = c.head_word.result in
     let n = length-set c.args.image.now 0 w in
-    is_made c.args.image.now _ c.args.spare.now c.write_line.new.spare (place k.term) None c.requires.same c.requires.low
+    is_made c.args.image.now _ c.args.spare.now c.write_line.new.spare (place k.term) (Ok tt) c.requires.same c.requires.low
     c.in-Some.e c.in-Some.m (next g.Q.QuantitySet.meaning k.term k.bindings) t c.if-m-gt-MOST_BINDINGS.false c.if-e-image.false
     refl w c.take_over.new.tail c.head_word.ensures
     (tail_written c.args.image.now c.write_line.new.spare c.take_over.new.tail w c.saturating_sub.result c.in-Some.e

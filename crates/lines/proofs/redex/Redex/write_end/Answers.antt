@@ -1,0 +1,42 @@
+use Rattle.std.proofs.Common.{ap, ◌∙◌, rules}
+use Rattle.calculus.specs.Terms.{application}
+use Rattle.calculus.specs.Configurations.{◌∣◌}
+use Rattle.calculus.specs.Redexes.{on_empty}
+use Rattle.image.specs.Reading.{label_at}
+use Rattle.writing.proofs.Building.{◌▸◌, rewritten}
+use Rattle.lines.proofs.Segments.{relabel}
+use Rattle.lines.proofs.Fields.{is_empty, not_empty}
+use Rattle.lines.proofs.Instances.{when_empty, when_ready}
+use Rattle.lines.proofs.Captured.{end_label, end_below, end_words}
+use Rattle.lines.proofs.redex.Redex.write_end.Goals as goal
+
+pub returns-then-ready : goal.returns-then-ready
+returns-then-ready c = λ k K l v b d e (h, q).
+    let r = c.args.self.now in
+    let y = c.label.ensures ∙ ap label_at c.get.ensures
+    ∙ end_label r.image.now k K r.place r.used l v b d e h q in
+    when_ready r.image.now k l c.binding_at-binding.result
+    (end_below r.image.now k K r.place r.used l v b d e h q)
+    (relabel r.image.now k _ c.label.result l y c.binding_at-binding.ensures.value h.is)
+    (not_empty c.if-ready.ensures c.get-2.ensures)
+    λ i t a w. ap (λ β. on_empty β (λ j. application b v ∣ k.bindings)) a
+
+pub returns : goal.returns
+returns c = λ k K l v b d e (h, q).
+    let r = c.args.self.now in
+    let y = c.label.ensures ∙ ap label_at c.get.ensures
+    ∙ end_label r.image.now k K r.place r.used l v b d e h q in
+    when_empty r.image.now k l c.binding_at-binding.result
+    (end_below r.image.now k K r.place r.used l v b d e h q)
+    (relabel r.image.now k _ c.label.result l y c.binding_at-binding.ensures.value h.is)
+    (is_empty c.if-ready.ensures c.get-2.ensures)
+    λ i a w. (
+      application b v ∣ k.bindings,
+      ap (λ β. on_empty β (λ j. application b v ∣ k.bindings)) a,
+      let w = rewritten
+          (end_words r.image.now k K r.place r.used l v b d e h q c.past-second.result c.past-third.result
+          c.past-fourth.result c.past-stop.result c.past-second.ensures.value c.past-third.ensures.value c.past-fourth.ensures.value
+          c.past-stop.ensures.value)
+          (c.copy.ensures.all ▸ (c.word.ensures.all ▸ (c.copy-2.ensures.all ▸ (c.copy-3.ensures.all ▸ c.copy-4.ensures.all)))) in
+          search rules,
+    )

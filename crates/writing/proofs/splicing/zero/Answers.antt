@@ -1,4 +1,0 @@
-use Rattle.writing.proofs.splicing.zero.Goals as goal
-
-pub returns : goal.returns
-returns c = c.fill.ensures.after (λ y e. e)

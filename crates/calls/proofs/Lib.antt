@@ -1,8 +1,8 @@
 -- The proofs, each after those that it uses.
 mod Stopping
-mod Entered
+pub mod Entered
 pub mod Points
-mod Entering
+pub mod Entering
 mod Single
 mod Sound
 pub mod Runs

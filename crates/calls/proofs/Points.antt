@@ -1,5 +1,5 @@
 -- Through every call a point keeps an image of a configuration that comes later.
-use Rattle.std.proofs.Common.{◌≡◌, ℕ, true, ◌⊎◌, List, length, Some, None, Ok, Err, Option, Result, sym, refl, subst, inl, inr, arith}
+use Rattle.std.proofs.Common.{◌≡◌, ℕ, true, ◌⊎◌, List, length, Some, None, Ok, Err, Option, Result, sym, refl, subst, inl, inr}
 use Rattle.std.proofs.lemmas.Bool.{cases_eq}
 use Rattle.faults.specs.declared.Fault.{Fault}
 use Rattle.faults.specs.declared.numbers.FaultNumber.TheVariants.{SpareLength}
@@ -60,7 +60,7 @@ module _ (Q : Meaning) (law : Law Q) where
   module _ (image : List ℕ) (c : Configuration) (s : Stands (point going image) c) (n : ℕ) where
     stopped_status : (f : Option Fault) (t : Term) → (f ≡ None) ⊎ (status_of t ≡ going) → state_after going (unless_refused f t) ≡ status_of t
     stopped_status None t e = refl
-    stopped_status (Some f) t (inl e) = let z : ◌≡◌ {A = ℕ} 0 1 = cc in absurd (omega arith)
+    stopped_status (Some f) t (inl e) = cc
     stopped_status (Some f) t (inr e) = sym e
 
     by_fault : (f : Option Fault) → (steps_in Q (length image) n c).fault ≡ f → (f ≡ None) ⊎ (status_of (steps_in Q (length image) n c).last.term ≡ going)

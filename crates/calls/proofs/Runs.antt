@@ -67,7 +67,7 @@ module _ (Q : Meaning) where
             at_place = cc;
             why = inr (inr (cc, (d, (agrees Q c.term c.bindings d.term d.bindings).1 e, ltb-false most_bindings (length d.bindings) ha, ltb-true len (used d) hb)));
           }
-      by_tests d e false false ha hb k = let z : ◌≡◌ {A = ℕ} 0 1 = cc in absurd (omega arith)
+      by_tests d e false false ha hb k = cc
 
       by : (o : Option Configuration) → next Q c.term c.bindings ≡ o → step_result len p o ≡ Err f → StepRefused Q len c f
       by None e k =
@@ -85,7 +85,7 @@ module _ (Q : Meaning) where
     refused : (f : Fault) → s.fault ≡ Some f → (s.made < n) × (rests s.last.term ≡ false) × StepRefused Q len s.last f
 
   no_fault : {A : Type 0} (f : Fault) → ◌≡◌ {A = Option Fault} None (Some f) → A
-  no_fault f e = let z : ◌≡◌ {A = ℕ} 0 1 = cc in absurd (omega arith)
+  no_fault f e = cc
 
   one_fault : (f g : Fault) → ◌≡◌ {A = Option Fault} (Some f) (Some g) → f ≡ g
   one_fault f g e = cc
@@ -117,10 +117,10 @@ module _ (Q : Meaning) where
 
   ok_only : (f : Option Fault) (t : Term) (s : Status) → unless_refused f t ≡ Ok s → (f ≡ None) × (s ≡ status_of t)
   ok_only None t s e = (refl, cc)
-  ok_only (Some f) t s e = let z : ◌≡◌ {A = ℕ} 0 1 = cc in absurd (omega arith)
+  ok_only (Some f) t s e = cc
 
   err_only : (f : Option Fault) (t : Term) (g : Fault) → unless_refused f t ≡ Err g → f ≡ Some g
-  err_only None t g e = let z : ◌≡◌ {A = ℕ} 0 1 = cc in absurd (omega arith)
+  err_only None t g e = cc
   err_only (Some f) t g e = cc
 
   -- a run that is entered

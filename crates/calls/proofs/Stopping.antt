@@ -1,5 +1,5 @@
 -- Where a run of steps stops: what comes of its configuration, and why it stops.
-use Rattle.std.proofs.Common.{◌≡◌, ℕ, zero, suc, Bool, true, false, cond, ltb, ◌⊎◌, length, Some, None, Ok, Err, Result, sym, refl, ap, ◌∙◌, inl, inr, arith}
+use Rattle.std.proofs.Common.{◌≡◌, ℕ, zero, suc, Bool, true, false, cond, ltb, ◌⊎◌, length, Some, None, Ok, Err, Result, sym, refl, ap, ◌∙◌, inl, inr}
 use Rattle.faults.specs.declared.Fault.{Fault}
 use Rattle.faults.specs.declared.numbers.FaultNumber.TheVariants.{Labels, ImageFull}
 use Rattle.quantities.specs.Meaning.{Meaning}
@@ -23,7 +23,7 @@ held_fault len p d f h = go (ltb most_bindings (length d.bindings)) (ltb len (us
     go : (a b : Bool) → ltb most_bindings (length d.bindings) ≡ a → ltb len (used d) ≡ b → OfRoom f
     go true b ha hb = let y = rw ha at h in inl cc
     go false true ha hb = let y = rw (ha, hb) at h in inr cc
-    go false false ha hb = let y = rw (ha, hb) at h in let z : ◌≡◌ {A = ℕ} 0 1 = cc in absurd (omega arith)
+    go false false ha hb = let y = rw (ha, hb) at h in cc
 
 module _ (Q : Meaning) where
   -- what comes later than what comes later
@@ -55,14 +55,14 @@ module _ (Q : Meaning) where
 
   -- where a run is refused, the term is neither a value nor a suspension
   pub refused_going : (len n : ℕ) (c : Configuration) (f : Fault) → (steps_in Q len n c).fault ≡ Some f → rests (steps_in Q len n c).last.term ≡ false
-  refused_going len zero c f h = let z : ◌≡◌ {A = ℕ} 0 1 = cc in absurd (omega arith)
+  refused_going len zero c f h = cc
   refused_going len (suc n) c f h = go (λ d. refused_going len n d f) (rests c.term) (step_in Q len c) refl h
     where
       go : ((d : Configuration) → (steps_in Q len n d).fault ≡ Some f → rests (steps_in Q len n d).last.term ≡ false) →
           (b : Bool) (r : Result Configuration Fault) → rests c.term ≡ b →
           let s : Stop = cond b (stop_at c None) (elim r [ Err g ↦ stop_at c (Some g) | Ok d ↦ one_more (steps_in Q len n d) ]) in
           s.fault ≡ Some f → rests s.last.term ≡ false
-      go again true r e h = let z : ◌≡◌ {A = ℕ} 0 1 = cc in absurd (omega arith)
+      go again true r e h = cc
       go again false (Err g) e h = e
       go again false (Ok d) e h = again d h
 
@@ -74,7 +74,7 @@ module _ (Q : Meaning) where
 
   -- is refused for want of labels or of room alone
   pub refused_for_room : (len n : ℕ) (c : Configuration) → HasSuccessors c → (f : Fault) → (steps_in Q len n c).fault ≡ Some f → OfRoom f
-  refused_for_room len zero c l f h = let z : ◌≡◌ {A = ℕ} 0 1 = cc in absurd (omega arith)
+  refused_for_room len zero c l f h = cc
   refused_for_room len (suc n) c l f h = go (λ d k. refused_for_room len n d k f) (rests c.term) (step_in Q len c) refl refl h
     where
       here : (g : Fault) → rests c.term ≡ false → step_in Q len c ≡ Err g → OfRoom g
@@ -86,6 +86,6 @@ module _ (Q : Meaning) where
           (b : Bool) (r : Result Configuration Fault) → rests c.term ≡ b → step_in Q len c ≡ r →
           let s : Stop = cond b (stop_at c None) (elim r [ Err g ↦ stop_at c (Some g) | Ok d ↦ one_more (steps_in Q len n d) ]) in
           s.fault ≡ Some f → OfRoom f
-      go again true r e v h = let z : ◌≡◌ {A = ℕ} 0 1 = cc in absurd (omega arith)
+      go again true r e v h = cc
       go again false (Err g) e v h = let i : g ≡ f = cc in here f e (v ∙ ap Err i)
       go again false (Ok d) e v h = again d (λ x k. l x (later_still (step_later len c d v) k)) h

@@ -1,5 +1,5 @@
 -- The words of an admitted program's term.
-use Rattle.std.proofs.Common.{◌≡◌, ℕ, suc, ◌≤◌, List, [], ◌∷◌, length, Some, None, Ok, Err, Option, Result, sym, refl, ap, ◌∙◌, arith}
+use Rattle.std.proofs.Common.{◌≡◌, ℕ, suc, ◌≤◌, List, [], ◌∷◌, length, Some, None, Ok, Option, sym, refl, ap, ◌∙◌}
 use Rattle.faults.specs.declared.Fault.{Fault}
 use Rattle.quantities.specs.Meaning.{Meaning, Lawful as Law}
 use Rattle.calculus.specs.Terms.{Term}
@@ -22,13 +22,8 @@ parted K words s p e h =
   where
     by : (a b : Option Fault) → unless a (unless b (Ok p)) ≡ Ok s → p ≡ s
     by None None k = cc
-    by None (Some f) k = let z : ◌≡◌ {A = ℕ} 0 1 = cc in absurd (omega arith)
-    by (Some f) b k = let z : ◌≡◌ {A = ℕ} 0 1 = cc in absurd (omega arith)
-
--- an answer that is no fault
-pub accepted_with : {A : Type 0} (r : Result A Fault) → ((f : Fault) → r ≡ Err f → ⊥) → (a : A) × (r ≡ Ok a)
-accepted_with (Ok a) h = (a, refl)
-accepted_with (Err f) h = absurd (h f refl)
+    by None (Some f) k = cc
+    by (Some f) b k = cc
 
 module _ (m : Meaning) (law : Law m) (program : List ℕ) (s n : ℕ) (hs : 256 ≤ s) (hn : 256 ≤ n) where
   pub words_admitted : (j : Judged) → admit_answer m program s n ≡ Ok j → (p : Split) → split m.bases program ≡ Ok p →

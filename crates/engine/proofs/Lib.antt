@@ -1,6 +1,5 @@
 -- The proofs, each after those that it uses.
 mod Entries
-mod Lengths
 mod Admitted
 mod Opened
 mod ShownParts

@@ -13,16 +13,17 @@ use Rattle.image.specs.Places.{At, Passed}
 use Rattle.image.specs.Reading.{reading}
 use Rattle.image.proofs.Whole.{laid}
 use Rattle.image.proofs.Exact.{reads_image}
-use Rattle.calls.specs.States.{Status, is_of}
+use Rattle.calls.specs.States.{is_of}
+use Rattle.calls.specs.declared.states.Status.{Status}
 use Rattle.calls.specs.Entry.{allowed_length, of_status, entered}
 use Rattle.calls.proofs.Points.{suspends}
 use Rattle.calls.proofs.Showing.{shows_itself, term_stands}
-use Rattle.engine.specs.Answers.{fault_in}
+use Rattle.engine.specs.Entry.{passed}
 use Rattle.engine.specs.Showing.{ShownAt}
 
 -- a fault says which answer it is of
-pub fault_known : {A : Type 0} (r : Result A Fault) (f : Fault) → Some f ≡ fault_in r → r ≡ Err f
-fault_known (Ok a) f e = let z : ◌≡◌ {A = ℕ} 0 1 = cc in absurd (omega arith)
+pub fault_known : {A : Type 0} (r : Result A Fault) (f : Fault) → Err f ≡ passed r → r ≡ Err f
+fault_known (Ok a) f e = cc
 fault_known (Err g) f e = let i : f ≡ g = cc in ap Err (sym i)
 
 -- what a call goes on with
@@ -32,25 +33,25 @@ pub record Known (s : Status) (image : List ℕ) (r : Result Configuration Fault
   pub is_image : Image image configuration
   pub in_state : is_of s configuration.term ≡ true
 
-known_status : (s : Status) (image : List ℕ) (o : Option Configuration) → reading image ≡ o → None ≡ fault_in (of_status s o) → Known s image (of_status s o)
-known_status s image None e h = let z : ◌≡◌ {A = ℕ} 0 1 = cc in absurd (omega arith)
+known_status : (s : Status) (image : List ℕ) (o : Option Configuration) → reading image ≡ o → Ok tt ≡ passed (of_status s o) → Known s image (of_status s o)
+known_status s image None e h = cc
 known_status s image (Some c) e h = by (is_of s c.term) refl h
   where
-    by : (b : Bool) → is_of s c.term ≡ b → None ≡ fault_in (cond b (Ok c) (Err (fault_of OtherState 0))) →
+    by : (b : Bool) → is_of s c.term ≡ b → Ok tt ≡ passed (cond b (Ok c) (Err (fault_of OtherState 0))) →
         Known s image (cond b (Ok c) (Err (fault_of OtherState 0)))
     by true q k = record { configuration = c; is = refl; is_image = reads_image image c e; in_state = q }
-    by false q k = let z : ◌≡◌ {A = ℕ} 0 1 = cc in absurd (omega arith)
+    by false q k = cc
 
-pub image_known : (s : Status) (image : List ℕ) → None ≡ fault_in (of_status s (reading image)) → Known s image (of_status s (reading image))
+pub image_known : (s : Status) (image : List ℕ) → Ok tt ≡ passed (of_status s (reading image)) → Known s image (of_status s (reading image))
 image_known s image h = known_status s image (reading image) refl h
 
-pub entry_known : (s : Status) (image : List ℕ) → None ≡ fault_in (entered s image) → Known s image (entered s image)
+pub entry_known : (s : Status) (image : List ℕ) → Ok tt ≡ passed (entered s image) → Known s image (entered s image)
 entry_known s image h = by (allowed_length (length image)) h
   where
-    by : (b : Bool) → None ≡ fault_in (cond b (of_status s (reading image)) (Err (fault_of ImageLength 0))) →
+    by : (b : Bool) → Ok tt ≡ passed (cond b (of_status s (reading image)) (Err (fault_of ImageLength 0))) →
         Known s image (cond b (of_status s (reading image)) (Err (fault_of ImageLength 0)))
     by true k = image_known s image k
-    by false k = let z : ◌≡◌ {A = ℕ} 0 1 = cc in absurd (omega arith)
+    by false k = cc
 
 -- the value of an end stands at word 1
 pub end_shown : (image : List ℕ) (c : Configuration) → Image image c → is_value c.term ≡ true → ShownAt image c 1

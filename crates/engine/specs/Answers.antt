@@ -1,7 +1,7 @@
 -- What the calls answer, as the code has it.
-use Rattle.std.specs.Prelude.{ℕ, Some, None, Ok, Err, Option, Result}
+use Rattle.std.specs.Prelude.{ℕ, Ok, Err, Result}
 use Rattle.faults.specs.declared.Fault.{Fault}
-use Rattle.calls.specs.States.{Status}
+use Rattle.calls.specs.declared.states.Status.{Status}
 use Rattle.calls.specs.Results.{Part}
 use Rattle.engine.specs.declared.states.Going.{Going}
 use Rattle.engine.specs.declared.states.Offering.{Offering}
@@ -31,8 +31,3 @@ taken o (Err f) = Err (record { fault = f; state = o })
 abbrev pub shown : Result Shown Fault → Result Part Fault
 shown (Ok p) = Ok (record { place = p.place; words = p.words.now })
 shown (Err f) = Err f
-
--- the fault, if there is one
-abbrev pub fault_in : {A : Type 0} → Result A Fault → Option Fault
-fault_in (Ok a) = None
-fault_in (Err f) = Some f

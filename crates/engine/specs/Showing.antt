@@ -6,10 +6,11 @@ use Rattle.calculus.specs.Configurations.{Configuration}
 use Rattle.calculus.specs.Views.{view}
 use Rattle.encoding.specs.Encoding.{encode, Stands}
 use Rattle.image.specs.Images.{Image}
-use Rattle.calls.specs.States.{Status, going, offering, ended, is_of}
+use Rattle.calls.specs.States.{is_of}
+use Rattle.calls.specs.declared.states.Status.{Status}
+use Rattle.calls.specs.declared.states.Status.TheVariants.{Going as going, Offering as offering, Ended as ended}
 use Rattle.calls.specs.Results.{shown_of, show_answer}
 use Rattle.engine.specs.declared.answers.Shown.{Shown}
-use Rattle.engine.specs.States.{status_number}
 use Rattle.engine.specs.Answers.{shown}
 
 -- an offer is not going
@@ -26,12 +27,11 @@ pub record ShownAt (image : List ℕ) (c : Configuration) (place : ℕ) : Type 0
   pub part : shown_of (view c.term) c.term ≡ record { place = place; words = encode value }
   pub stands : Stands value image place
 
--- where the value stands that is shown in the state with this number, which is not going
-abbrev pub ValuePlace : List ℕ → ℕ → ℕ → Type 0
+-- where the value stands that is shown in a state that is not going
+abbrev pub ValuePlace : List ℕ → Status → ℕ → Type 0
 ValuePlace image wanted place =
-    (s : Status) (c : Configuration) → wanted ≡ status_number s → (s ≢ going) → Image image c → is_of s c.term ≡ true →
-    ShownAt image c place
+    (c : Configuration) → (wanted ≢ going) → Image image c → is_of wanted c.term ≡ true → ShownAt image c place
 
--- the answer of show in the state with this number, which is not going
-abbrev pub Shows : List ℕ → ℕ → Result Shown Fault → Type 0
-Shows image wanted r = (s : Status) → wanted ≡ status_number s → (s ≢ going) → shown r ≡ show_answer s image
+-- the answer of show in a state that is not going
+abbrev pub Shows : List ℕ → Status → Result Shown Fault → Type 0
+Shows image wanted r = (wanted ≢ going) → shown r ≡ show_answer wanted image

@@ -1,26 +1,28 @@
 // What the calls look at first: lengths, whether the words are an image, and its state.
-ghost use Rattle.std.specs.Prelude.{◌≡◌, ◌≤◌, length, MatchOption};
-ghost use Rattle.calls.specs.Entry.{allowed_length};
-ghost use Rattle.engine.specs.States.{state_of, status_at, status_number};
-ghost use Rattle.engine.specs.Entry.{lengths_fault, LengthsFit, ImageFault, EntryFault, SpareEntryFault};
+ghost use Rattle.std.specs.Prelude.{◌≡◌, length};
+ghost use Rattle.image.specs.Reading.{reading};
+ghost use Rattle.calls.specs.Entry.{on_length, on_spare, of_status, entered, entered_with};
+ghost use Rattle.engine.specs.States.{state_of, status_at};
+ghost use Rattle.engine.specs.Entry.{passed, LengthsFit};
 
-use crate::states::{Ended, Going, Offering, State};
+use crate::states::State;
+use calls::states::Status;
 use faults::Fault;
 use faults::numbers::FaultNumber;
 use image::read::read_image;
 use image::values::is_value_word;
-use words::fields::kind_number;
+use words::kinds::Kind;
 
-// The number of the state of the term whose first word this is.
-fn number_at(word: u32) -> u8
-    ensures { result ≡ status_number (status_at word) }
+// The name of the state of the term whose first word this is.
+fn status_at(word: u32) -> Status
+    ensures { result ≡ status_at word }
 {
     if is_value_word(word) {
-        2
-    } else if kind_number(word) == 14 {
-        1
+        Status::Ended
+    } else if Kind::Suspension.is_of(word) {
+        Status::Offering
     } else {
-        0
+        Status::Going
     }
 }
 
@@ -28,66 +30,58 @@ fn number_at(word: u32) -> u8
 pub(crate) fn state_at(word: u32) -> State
     ensures { result ≡ state_of (status_at word) }
 {
-    if is_value_word(word) {
-        State::Ended(Ended { number: 2 })
-    } else if kind_number(word) == 14 {
-        State::Offering(Offering { number: 1 })
-    } else {
-        State::Going(Going { number: 0 })
-    }
+    State::of(status_at(word))
 }
 
-// Whether an image may have so many words.
-fn is_allowed(len: usize) -> bool
-    ensures { result ≡ allowed_length len }
+// Fault 2 where an image may not have so many words.
+fn check_length(image: usize) -> Result<(), Fault>
+    ensures { result ≡ on_length image (Ok tt) }
 {
-    2 <= len && len <= 16384
+    if (2..=16384).contains(&image) {
+        Ok(())
+    } else {
+        Err(Fault::new(FaultNumber::ImageLength, 0))
+    }
 }
 
 // Fault 2 where an image may not have so many words, 3 where the spare has another number of words.
-pub(crate) fn check_lengths(image: usize, spare: usize) -> Option<Fault>
-    ensures value { result ≡ lengths_fault image spare }
+pub(crate) fn check_lengths(image: usize, spare: usize) -> Result<(), Fault>
+    ensures value { result ≡ on_length image (on_spare spare image (Ok tt)) }
     ensures bounds { LengthsFit image spare result }
 {
-    if !is_allowed(image) {
-        return Some(Fault::new(FaultNumber::ImageLength, 0));
-    }
+    check_length(image)?;
     if spare != image {
-        return Some(Fault::new(FaultNumber::SpareLength, 0));
+        return Err(Fault::new(FaultNumber::SpareLength, 0));
     }
-    None
+    Ok(())
 }
 
-// Fault 16 where the words are not an image, 17 where its term is not of the state with this number.
-fn check_image(image: &[u32], wanted: u8) -> Option<Fault>
-    ensures { ImageFault image.now wanted result }
+// Fault 16 where the words are not an image, 17 where its term is of another state.
+fn check_image(image: &[u32], wanted: Status) -> Result<(), Fault>
+    ensures { result ≡ passed (of_status wanted (reading image.now)) }
 {
     if !read_image(image) || image.len() < 2 {
-        return Some(Fault::new(FaultNumber::NotImage, 0));
+        return Err(Fault::new(FaultNumber::NotImage, 0));
     }
-    if number_at(image[1]) != wanted {
-        return Some(Fault::new(FaultNumber::OtherState, 0));
+    if status_at(image[1]) != wanted {
+        return Err(Fault::new(FaultNumber::OtherState, 0));
     }
-    None
+    Ok(())
 }
 
 // What a call without a spare looks at: 2, 16, 17.
-pub(crate) fn check_entry(image: &[u32], wanted: u8) -> Option<Fault>
-    ensures { EntryFault image.now wanted result }
+pub(crate) fn check_entry(image: &[u32], wanted: Status) -> Result<(), Fault>
+    ensures { result ≡ passed (entered wanted image.now) }
 {
-    if !is_allowed(image.len()) {
-        return Some(Fault::new(FaultNumber::ImageLength, 0));
-    }
+    check_length(image.len())?;
     check_image(image, wanted)
 }
 
 // What a call with a spare looks at: 2, 3, 16, 17.
-pub(crate) fn check_entry_with(image: &[u32], spare: usize, wanted: u8) -> Option<Fault>
-    ensures value { SpareEntryFault image.now spare wanted result }
+pub(crate) fn check_entry_with(image: &[u32], spare: usize, wanted: Status) -> Result<(), Fault>
+    ensures value { result ≡ passed (entered_with wanted image.now spare) }
     ensures bounds { LengthsFit (length image.now) spare result }
 {
-    if let Some(fault) = check_lengths(image.len(), spare) {
-        return Some(fault);
-    }
+    check_lengths(image.len(), spare)?;
     check_image(image, wanted)
 }

@@ -21,6 +21,8 @@ use quantities::QuantitySet;
 use rules::model::Judged;
 use typing::model::{Frame, Scoped};
 
+// Kept: each call hands over to one function, which has several ways out; here each theorem is owed on one way alone.
+// Kept: slices lent one by one, here and below; a clause on a struct of two can name what they hold afterwards only as `work.exit.0`.
 impl<Q: QuantitySet> Engine<Q> {
     // An engine over a set.
     pub fn new(set: Q) -> Self
@@ -87,7 +89,7 @@ impl<Q: QuantitySet> Engine<Q> {
         ensures answer { shown result ≡ show_answer S.status image.now }
         ensures part { ShowsTheValue S.status image.now }
     {
-        show_part(image, state.number())
+        show_part(image, state.status())
     }
 
     // Makes the suspended term the image's term; the next state, or the fault and the state back: 2, 3, 16, 17.

@@ -31,13 +31,10 @@ fn admitted_words<'a, Q: QuantitySet>(
     ensures scopes { scopes.new ≡ replicate (length scopes.old) nobody }
     ensures judgements { judgements.new ≡ replicate (length judgements.old) (fresh 0 0) }
 {
-    if let Err(fault) = admit(set, program, scopes, judgements) {
-        return Err(fault);
-    }
-    match split(program, set.bases()) {
-        Ok(parts) => Ok(parts.term),
-        Err(fault) => Err(fault),
-    }
+    // Kept: parted once more, since `admit` answers rows of the table and no parts.
+    admit(set, program, scopes, judgements)?;
+    let parts = split(program, set.bases())?;
+    Ok(parts.term)
 }
 
 // Writes a term into an image from word 1 on, with no bindings, and answers its state; fault 15 where it has no room.
@@ -75,11 +72,7 @@ pub(crate) fn open_program<Q: QuantitySet>(
     if scopes.len() < 256 || judgements.len() < 256 {
         return Err(Fault::new(FaultNumber::WorkShort, 0));
     }
-    if let Some(fault) = check_lengths(image.len(), guard.words.len()) {
-        return Err(fault);
-    }
-    match admitted_words(set, program, scopes, judgements) {
-        Ok(term) => write_opened(image, term),
-        Err(fault) => Err(fault),
-    }
+    check_lengths(image.len(), guard.words.len())?;
+    let term = admitted_words(set, program, scopes, judgements)?;
+    write_opened(image, term)
 }

@@ -7,8 +7,9 @@ use crate::answers::{Ran, RunRefused};
 use crate::entry::{check_entry_with, state_at};
 use crate::guard::Zeroing;
 use crate::states::Going;
+use calls::states::Status;
 use quantities::QuantitySet;
-use steps::run::run_steps;
+use steps::run::{Halted, run_steps};
 
 // All of it; the spare is zero afterwards, however it ends.
 pub(crate) fn run_image<Q: QuantitySet>(
@@ -23,19 +24,19 @@ pub(crate) fn run_image<Q: QuantitySet>(
     ensures spare { spare.new ≡ replicate (length spare.old) 0 }
 {
     let guard = Zeroing { words: spare };
-    if let Some(fault) = check_entry_with(image, guard.words.len(), 0) {
+    // Kept: a closure of `map_err` would take the state, which the answer below needs too.
+    if let Err(fault) = check_entry_with(image, guard.words.len(), Status::Going) {
         return Err(RunRefused {
             fault,
             made: 0,
             state,
         });
     }
-    let (made, fault) = run_steps(set, image, &mut *guard.words, n);
-    match fault {
-        Some(fault) => Err(RunRefused { fault, made, state }),
-        None => Ok(Ran {
+    match run_steps(set, image, &mut *guard.words, n) {
+        Ok(made) => Ok(Ran {
             made,
             state: state_at(image[1]),
         }),
+        Err(Halted { fault, made }) => Err(RunRefused { fault, made, state }),
     }
 }

@@ -1,12 +1,13 @@
 // Showing: the pending value of an offer, or the value of an end, as a part of the caller's words.
 ghost use Rattle.std.specs.Prelude.{◌≡◌, ◌≢◌};
-ghost use Rattle.calls.specs.States.{Status, going, offering, ended};
-ghost use Rattle.engine.specs.States.{status_number};
+ghost use Rattle.calls.specs.declared.states.Status.{Status};
+ghost use Rattle.calls.specs.declared.states.Status.TheVariants.{Going as going, Offering as offering, Ended as ended};
 ghost use Rattle.engine.specs.Showing.{ValuePlace, Shows, offering_rests, ended_rests};
 
 use crate::answers::Shown;
 use crate::entry::check_entry;
 use crate::states::{Ended, Offering};
+use calls::states::Status;
 use encoding::cursor::Cursor;
 use faults::Fault;
 use faults::numbers::FaultNumber;
@@ -16,9 +17,9 @@ use image::locate::past;
 pub trait Showing {
     ghost status: { Status };
 
-    // The number of the state.
-    fn number(&self) -> u8
-        ensures { result ≡ status_number status };
+    // The state by name.
+    fn status(&self) -> Status
+        ensures { result ≡ status };
 
     ghost resting: { status ≢ going };
 }
@@ -28,8 +29,8 @@ impl Showing for Offering {
 
     ghost resting = { offering_rests };
 
-    fn number(&self) -> u8 {
-        1
+    fn status(&self) -> Status {
+        Status::Offering
     }
 }
 
@@ -38,32 +39,29 @@ impl Showing for Ended {
 
     ghost resting = { ended_rests };
 
-    fn number(&self) -> u8 {
-        2
+    fn status(&self) -> Status {
+        Status::Ended
     }
 }
 
-// Where the value stands that is shown in the state with this number: behind the suspension's word and its term in an offer, at word 1
-// in an end.
-fn value_place(image: &[u32], wanted: u8) -> usize
+// Where the value stands that is shown in a state: behind the suspension's word and its term in an offer, at word 1 in an end.
+fn value_place(image: &[u32], wanted: Status) -> usize
     ensures { ValuePlace image.now wanted result }
 {
-    if wanted == 1 { past(image, 2) } else { 1 }
+    match wanted {
+        Status::Offering => past(image, 2),
+        Status::Going | Status::Ended => 1,
+    }
 }
 
-// The part that is shown in the state with this number.
-pub(crate) fn show_part<'a>(image: &'a [u32], wanted: u8) -> Result<Shown<'a>, Fault>
+// The part that is shown in a state.
+pub(crate) fn show_part<'a>(image: &'a [u32], wanted: Status) -> Result<Shown<'a>, Fault>
     ensures { Shows image.now wanted result }
 {
-    if let Some(fault) = check_entry(image, wanted) {
-        return Err(fault);
-    }
+    check_entry(image, wanted)?;
     let place = value_place(image, wanted);
-    let Some(mut cursor) = Cursor::from(image, place) else {
-        return Err(Fault::new(FaultNumber::NotImage, 0));
-    };
-    match cursor.next_term() {
-        Some(words) => Ok(Shown { place, words }),
-        None => Err(Fault::new(FaultNumber::NotImage, 0)),
-    }
+    let not_image = Fault::new(FaultNumber::NotImage, 0);
+    let mut cursor = Cursor::from(image, place).ok_or(not_image)?;
+    let words = cursor.next_term().ok_or(not_image)?;
+    Ok(Shown { place, words })
 }

@@ -7,6 +7,7 @@ use crate::answers::TakeRefused;
 use crate::entry::{check_entry_with, state_at};
 use crate::guard::Zeroing;
 use crate::states::{Offering, State};
+use calls::states::Status;
 use steps::taking::take_term;
 
 // All of it; the spare is zero afterwards, however it ends.
@@ -20,9 +21,12 @@ pub(crate) fn take_image(
     ensures spare { spare.new ≡ replicate (length spare.old) 0 }
 {
     let guard = Zeroing { words: spare };
-    if let Some(fault) = check_entry_with(image, guard.words.len(), 1) {
-        return Err(TakeRefused { fault, state });
+    // Kept: a match, as in `run_image`; a closure of `map_err` would take the state in both cases.
+    match check_entry_with(image, guard.words.len(), Status::Offering) {
+        Ok(()) => {
+            take_term(image, &mut *guard.words);
+            Ok(state_at(image[1]))
+        }
+        Err(fault) => Err(TakeRefused { fault, state }),
     }
-    take_term(image, &mut *guard.words);
-    Ok(state_at(image[1]))
 }

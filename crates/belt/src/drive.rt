@@ -12,10 +12,11 @@ use engine::showing::Showing;
 use engine::states::{Going, Offering, State};
 use faults::Fault;
 use quantities::counts::Counts;
-use rules::model::{Judged, Variable};
+use rules::model::Judged;
 use std::alloc::{AllocError, Global};
 use typing::model::{Frame, Scoped};
-use words::fields::{base, bindings, kind_number, payload, used};
+use words::fields::{base, bindings, payload, used};
+use words::kinds::Kind;
 
 // The most steps that a drive makes in one tick.
 pub const STEPS_A_TICK: u16 = 10;
@@ -41,23 +42,10 @@ impl Drive {
     pub fn new(heap: Global, words: usize) -> Result<Drive, AllocError>
         ensures { IfOk result (λ d. vec_len d.image ≡ words) }
     {
-        let none = Judged { row: 0, yields: 0 };
-        let scoped = Scoped {
-            variable: Variable { name: 0, row: 0 },
-        };
-        let frame = Frame {
-            word: 0,
-            place: 0,
-            done: 0,
-            first: none,
-            second: none,
-            third: none,
-            fourth: none,
-        };
         Ok(Drive {
             engine: Engine::new(Counts),
-            scopes: [scoped; 256],
-            judgements: [frame; 256],
+            scopes: [Scoped::default(); 256],
+            judgements: [Frame::default(); 256],
             image: vec![in heap; 0; words]?,
             spare: vec![in heap; 0; words]?,
         })
@@ -143,7 +131,7 @@ fn count_of(words: &[u32]) -> Option<u32>
     ensures { result ≡ count_of words.now }
 {
     match words {
-        [word] if kind_number(*word) == 10 && base(*word) == 0 => Some(payload(*word)),
+        [word] if Kind::Atom.is_of(*word) && base(*word) == 0 => Some(payload(*word)),
         _ => None,
     }
 }
@@ -153,7 +141,7 @@ fn usage_of(image: &[u32]) -> Option<Usage>
     ensures { result ≡ usage_of image.now }
 {
     match image {
-        [head, ..] if kind_number(*head) == 23 => Some(Usage {
+        [head, ..] if Kind::ImageHead.is_of(*head) => Some(Usage {
             words: used(*head),
             bindings: bindings(*head),
         }),

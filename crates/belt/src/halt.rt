@@ -2,70 +2,32 @@
 use engine::answers::{RunRefused, TakeRefused};
 use engine::states::State;
 use faults::Fault;
+use layout::WideField;
 use std::alloc::AllocError;
-use std::{fmt, io};
+use std::io;
+use thiserror::Error;
 
-#[derive(Drop)]
+#[derive(Debug, Drop, Error)]
 pub enum Halt {
     // A call was refused that hands no state back.
-    Call(Fault),
+    #[error("{0}")]
+    Call(#[from] Fault),
     // A tick was refused, and the run is still going.
-    Tick(RunRefused),
+    #[error("{0}")]
+    Tick(#[from] RunRefused),
     // A take was refused, and the offer still stands.
-    Take(TakeRefused),
+    #[error("{0}")]
+    Take(#[from] TakeRefused),
     // The loop has gone round often enough, and the run has not ended.
+    #[error("the run has not ended in time")]
     Late(State),
+    // A word of the sequence has a field that does not fit.
+    #[error("{0}")]
+    Word(#[from] WideField),
     // There is no memory.
-    Memory,
+    #[error("there is no memory")]
+    Memory(#[from(alloc)] AllocError),
     // Nothing can be printed.
-    Output(io::Error),
-}
-
-impl From<Fault> for Halt {
-    fn from(fault: Fault) -> Halt {
-        Halt::Call(fault)
-    }
-}
-
-impl From<RunRefused> for Halt {
-    fn from(refused: RunRefused) -> Halt {
-        Halt::Tick(refused)
-    }
-}
-
-impl From<TakeRefused> for Halt {
-    fn from(refused: TakeRefused) -> Halt {
-        Halt::Take(refused)
-    }
-}
-
-impl From<AllocError> for Halt {
-    fn from(_error: AllocError) -> Halt {
-        Halt::Memory
-    }
-}
-
-impl From<io::Error> for Halt {
-    fn from(error: io::Error) -> Halt {
-        Halt::Output(error)
-    }
-}
-
-impl fmt::Display for Halt {
-    fn fmt<W: fmt::Write>(&self, f: &mut fmt::Formatter<W>) -> fmt::Result {
-        match self {
-            Halt::Call(fault) => write!(f, "{fault}"),
-            Halt::Tick(refused) => {
-                let fault = refused.fault;
-                write!(f, "{fault}")
-            }
-            Halt::Take(refused) => {
-                let fault = refused.fault;
-                write!(f, "{fault}")
-            }
-            Halt::Late(_) => f.write_str("the run has not ended in time"),
-            Halt::Memory => f.write_str("there is no memory"),
-            Halt::Output(error) => write!(f, "{error}"),
-        }
-    }
+    #[error("{0}")]
+    Output(#[from] io::Error),
 }

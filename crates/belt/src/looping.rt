@@ -87,18 +87,14 @@ fn take_set_point(
 
 // The state of a run, and what the head of its image says.
 pub fn print_state(rt: &HostRuntime, drive: &Drive, state: &State) -> io::Result<()> {
-    let name = match state {
-        State::Going(_) => "going",
-        State::Offering(_) => "offering",
-        State::Ended(_) => "ended",
-    };
+    let status = state.status();
     match drive.usage() {
         Some(usage) => {
             let words = usage.words;
             let bindings = usage.bindings;
-            println!(rt; "{name}, {words} words used, {bindings} bindings")
+            println!(rt; "{status}, {words} words used, {bindings} bindings")
         }
-        None => println!(rt; "{name}, no image"),
+        None => println!(rt; "{status}, no image"),
     }
 }
 

@@ -4,7 +4,6 @@
 
 mod drive;
 mod halt;
-mod kinds;
 mod looping;
 mod sequence;
 mod stages;

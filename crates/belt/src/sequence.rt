@@ -4,144 +4,209 @@
 // asks a sensor. Where the sensor yields, the position is good, and the loop goes on. Where it ends with a count, the belt has slipped by
 // that count: the loop offers the position without the slip, the last good one, and goes on from the snapshot. Once the sensor is over,
 // every position is good. This sensor reports two good positions and then a slip by 10.
-use crate::kinds::*;
+use layout::Word;
 
-// Rows of the table, as they stand in a binder or a start.
+// Rows of the table.
+// 0: Unit.
+pub const UNIT: u16 = 0;
+// 2: counts.
+pub const COUNT: u16 = 2;
+// 3: truth values.
+pub const TRUTH: u16 = 3;
 // 4: a coroutine from a count, which yields counts and gives a count: a belt, and what handles a belt's values.
-const POSITIONS: u32 = 4 * ROW;
+const POSITIONS: u16 = 4;
 // 5: an instance of a belt.
-const MOVING: u32 = 5 * ROW;
+const MOVING: u16 = 5;
 // 6: what goes on after an offer, to the end of the sequence.
-const AFTER: u32 = 6 * ROW;
+const AFTER: u16 = 6;
 // 7: what goes on with a belt, to the end of the sequence.
-const DRIVING: u32 = 7 * ROW;
+const DRIVING: u16 = 7;
 // 8: a function from a loop to a loop, of which the loop is the fix.
-const LOOPING: u32 = 8 * ROW;
+const LOOPING: u16 = 8;
 // 9: a coroutine from Unit, which yields Unit and gives a count: a sensor.
-const REPORTS: u32 = 9 * ROW;
+const REPORTS: u16 = 9;
 // 10: an instance of a sensor.
-const WATCHING: u32 = 10 * ROW;
+const WATCHING: u16 = 10;
 // 11: what goes on with a sensor, to the end of the sequence.
-const WATCHED: u32 = 11 * ROW;
+const WATCHED: u16 = 11;
 // 12: from the length of a slip to the belt to go on with.
-const BACK: u32 = 12 * ROW;
+const BACK: u16 = 12;
 // 13: from Unit to the belt to go on with.
-const ON: u32 = 13 * ROW;
+const ON: u16 = 13;
 
 // Names in the sequence.
 // A name that is not used.
-const NOTHING: u32 = 0;
+const NOTHING: u16 = 0;
 // The first position of the belt.
-const FIRST: u32 = 1;
+const FIRST: u16 = 1;
 // The instance of the sensor.
-const SENSOR: u32 = 2;
+const SENSOR: u16 = 2;
 // The loop itself.
-const AGAIN: u32 = 3;
+const AGAIN: u16 = 3;
 // The instance of the belt that moves next.
-const BELT: u32 = 4;
+const BELT: u16 = 4;
 // The snapshot of the belt at its last good position.
-const GOOD: u32 = 5;
+const GOOD: u16 = 5;
 // The value that the belt has ended with.
-const LAST: u32 = 6;
+const LAST: u16 = 6;
 // The position that the belt has moved to.
-const POSITION: u32 = 7;
+const POSITION: u16 = 7;
 // By how much the belt has slipped.
-const SLIP: u32 = 8;
+const SLIP: u16 = 8;
 
 // The place of the word that the belt is started with: its first position.
 pub const FIRST_POSITION: usize = 79;
 
-pub const BELT_SEQUENCE: [u32; 92] = [
-    PROGRAM_HEAD + 77 * TERM_WORD + 14,
-    UNIT_TYPE, // row 0
-    BOTTOM_TYPE, // row 1
-    BASE_TYPE, // row 2: counts
-    BASE_TYPE + 1, // row 3: truth values
-    COROUTINE_TYPE + 2 + 2 * SECOND + 2 * THIRD, // row 4
-    INSTANCE_TYPE + 2 + 2 * SECOND, // row 5
-    COROUTINE_TYPE + 0 + 2 * SECOND + 2 * THIRD, // row 6
-    COROUTINE_TYPE + 5 + 2 * SECOND + 2 * THIRD, // row 7
-    FUNCTION_TYPE + 7 + 7 * SECOND, // row 8
-    COROUTINE_TYPE + 0 + 0 * SECOND + 2 * THIRD, // row 9
-    INSTANCE_TYPE + 0 + 2 * SECOND, // row 10
-    COROUTINE_TYPE + 10 + 2 * SECOND + 2 * THIRD, // row 11
-    COROUTINE_TYPE + 2 + 2 * SECOND + 5 * THIRD, // row 12
-    COROUTINE_TYPE + 0 + 2 * SECOND + 5 * THIRD, // row 13
-    APPLICATION, // with SENSOR, the instance that is started last:
-    COROUTINE + WATCHED + SENSOR,
-    APPLICATION, // the loop, on the started belt
-    FIX, // AGAIN is this loop
-    ABSTRACTION + LOOPING + AGAIN,
-    COROUTINE + DRIVING + BELT, // it takes a BELT:
-    APPLICATION, // with GOOD, a snapshot of the belt that is taken before its next move:
-    COROUTINE + DRIVING + GOOD,
-    RESUME, // the belt moves
-    VARIABLE + BELT,
-    COROUTINE + POSITIONS + LAST, // if it ends, its last position is the value of all
-    VARIABLE + LAST,
-    COROUTINE + POSITIONS + POSITION, // if it yields a POSITION:
-    APPLICATION, // the position is offered, and after that
-    COROUTINE + AFTER + NOTHING,
-    APPLICATION, // the loop runs again, on the belt that the sensor's report gives:
-    VARIABLE + AGAIN,
-    RESUME, // the sensor is asked
-    VARIABLE + SENSOR,
-    COROUTINE + BACK + SLIP, // if it ends, there was a SLIP:
-    APPLICATION, // the position before it is offered, and after that
-    COROUTINE + ON + NOTHING, // the belt is the snapshot
-    VARIABLE + GOOD,
-    YIELD,
-    DIFFERENCE,
-    VARIABLE + POSITION,
-    VARIABLE + SLIP,
-    COROUTINE + ON + NOTHING, // if it yields, the position is good: the belt stays
-    VARIABLE + BELT,
-    COROUTINE + ON + NOTHING, // if it is over, too
-    VARIABLE + BELT,
-    YIELD, // (the offer of the position)
-    VARIABLE + POSITION,
-    COROUTINE + AFTER + NOTHING, // if the belt is over, the value of all is 0
-    COUNT + 0,
-    SNAPSHOT, // (the snapshot)
-    VARIABLE + BELT,
-    START + MOVING, // (the started belt) a belt from its FIRST position on:
-    COROUTINE + POSITIONS + FIRST,
-    APPLICATION, // after the first offer
-    COROUTINE + AFTER + NOTHING,
-    APPLICATION, // after the second
-    COROUTINE + AFTER + NOTHING,
-    APPLICATION, // after the third
-    COROUTINE + AFTER + NOTHING,
-    APPLICATION, // after the fourth
-    COROUTINE + AFTER + NOTHING,
-    SUM, // its last position is the first one and 30
-    VARIABLE + FIRST,
-    COUNT + 30,
-    YIELD, // the fourth offer: the first position and 30
-    SUM,
-    VARIABLE + FIRST,
-    COUNT + 30,
-    YIELD, // the third offer: the first position and 20
-    SUM,
-    VARIABLE + FIRST,
-    COUNT + 20,
-    YIELD, // the second offer: the first position and 10
-    SUM,
-    VARIABLE + FIRST,
-    COUNT + 10,
-    YIELD, // the first offer
-    VARIABLE + FIRST,
-    COUNT + 0, // the first position
-    START + WATCHING, // (the sensor)
-    COROUTINE + REPORTS + NOTHING,
-    APPLICATION, // after the first report
-    COROUTINE + REPORTS + NOTHING,
-    APPLICATION, // after the second
-    COROUTINE + REPORTS + NOTHING,
-    COUNT + 10, // a slip by 10
-    YIELD, // the second report: the position is good
-    UNIT,
-    YIELD, // the first report: the position is good
-    UNIT,
-    UNIT, // what the sensor is started with
-];
+// The operations 0 and 1 on counts.
+const SUM: Word = Word::Operation { number: 0 };
+
+const DIFFERENCE: Word = Word::Operation { number: 1 };
+
+fn coroutine_type(argument: u16, yields: u16, value: u16) -> Word {
+    Word::CoroutineType {
+        argument,
+        yields,
+        result: value,
+    }
+}
+
+fn instance_type(yields: u16, value: u16) -> Word {
+    Word::InstanceType {
+        yields,
+        result: value,
+    }
+}
+
+fn function_type(argument: u16, value: u16) -> Word {
+    Word::FunctionType {
+        argument,
+        result: value,
+    }
+}
+
+fn variable(name: u16) -> Word {
+    Word::Variable { name }
+}
+
+fn abstraction(row: u16, name: u16) -> Word {
+    Word::Abstraction { name, row }
+}
+
+fn coroutine(row: u16, name: u16) -> Word {
+    Word::Coroutine { name, row }
+}
+
+fn start(row: u16) -> Word {
+    Word::Start { row }
+}
+
+// An atom of base 0.
+fn count(payload: u32) -> Word {
+    Word::Atom { base: 0, payload }
+}
+
+// An atom of base 1.
+pub fn truth(payload: u32) -> Word {
+    Word::Atom { base: 1, payload }
+}
+
+// The words of the sequence: its head, its rows and its term.
+pub fn belt_sequence() -> [Word; 92] {
+    [
+        Word::ProgramHead {
+            rows: 14,
+            term_words: 77,
+        },
+        Word::UnitType, // row 0
+        Word::BottomType, // row 1
+        Word::BaseType { base: 0 }, // row 2: counts
+        Word::BaseType { base: 1 }, // row 3: truth values
+        coroutine_type(COUNT, COUNT, COUNT), // row 4
+        instance_type(COUNT, COUNT), // row 5
+        coroutine_type(UNIT, COUNT, COUNT), // row 6
+        coroutine_type(MOVING, COUNT, COUNT), // row 7
+        function_type(DRIVING, DRIVING), // row 8
+        coroutine_type(UNIT, UNIT, COUNT), // row 9
+        instance_type(UNIT, COUNT), // row 10
+        coroutine_type(WATCHING, COUNT, COUNT), // row 11
+        coroutine_type(COUNT, COUNT, MOVING), // row 12
+        coroutine_type(UNIT, COUNT, MOVING), // row 13
+        Word::Application, // with SENSOR, the instance that is started last:
+        coroutine(WATCHED, SENSOR),
+        Word::Application, // the loop, on the started belt
+        Word::Fix, // AGAIN is this loop
+        abstraction(LOOPING, AGAIN),
+        coroutine(DRIVING, BELT), // it takes a BELT:
+        Word::Application, // with GOOD, a snapshot of the belt that is taken before its next move:
+        coroutine(DRIVING, GOOD),
+        Word::Resume, // the belt moves
+        variable(BELT),
+        coroutine(POSITIONS, LAST), // if it ends, its last position is the value of all
+        variable(LAST),
+        coroutine(POSITIONS, POSITION), // if it yields a POSITION:
+        Word::Application, // the position is offered, and after that
+        coroutine(AFTER, NOTHING),
+        Word::Application, // the loop runs again, on the belt that the sensor's report gives:
+        variable(AGAIN),
+        Word::Resume, // the sensor is asked
+        variable(SENSOR),
+        coroutine(BACK, SLIP), // if it ends, there was a SLIP:
+        Word::Application, // the position before it is offered, and after that
+        coroutine(ON, NOTHING), // the belt is the snapshot
+        variable(GOOD),
+        Word::Yield,
+        DIFFERENCE,
+        variable(POSITION),
+        variable(SLIP),
+        coroutine(ON, NOTHING), // if it yields, the position is good: the belt stays
+        variable(BELT),
+        coroutine(ON, NOTHING), // if it is over, too
+        variable(BELT),
+        Word::Yield, // (the offer of the position)
+        variable(POSITION),
+        coroutine(AFTER, NOTHING), // if the belt is over, the value of all is 0
+        count(0),
+        Word::Snapshot, // (the snapshot)
+        variable(BELT),
+        start(MOVING), // (the started belt) a belt from its FIRST position on:
+        coroutine(POSITIONS, FIRST),
+        Word::Application, // after the first offer
+        coroutine(AFTER, NOTHING),
+        Word::Application, // after the second
+        coroutine(AFTER, NOTHING),
+        Word::Application, // after the third
+        coroutine(AFTER, NOTHING),
+        Word::Application, // after the fourth
+        coroutine(AFTER, NOTHING),
+        SUM, // its last position is the first one and 30
+        variable(FIRST),
+        count(30),
+        Word::Yield, // the fourth offer: the first position and 30
+        SUM,
+        variable(FIRST),
+        count(30),
+        Word::Yield, // the third offer: the first position and 20
+        SUM,
+        variable(FIRST),
+        count(20),
+        Word::Yield, // the second offer: the first position and 10
+        SUM,
+        variable(FIRST),
+        count(10),
+        Word::Yield, // the first offer
+        variable(FIRST),
+        count(0), // the first position
+        start(WATCHING), // (the sensor)
+        coroutine(REPORTS, NOTHING),
+        Word::Application, // after the first report
+        coroutine(REPORTS, NOTHING),
+        Word::Application, // after the second
+        coroutine(REPORTS, NOTHING),
+        count(10), // a slip by 10
+        Word::Yield, // the second report: the position is good
+        Word::Unit,
+        Word::Yield, // the first report: the position is good
+        Word::Unit,
+        Word::Unit, // what the sensor is started with
+    ]
+}

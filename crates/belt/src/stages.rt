@@ -1,11 +1,12 @@
 // The stages, each with what the loop of a drive sees.
 use crate::drive::{Drive, STEPS_A_TICK};
 use crate::halt::Halt;
-use crate::kinds::TRUTH;
 use crate::looping::{Seen, print_end, print_state, run_belt};
-use crate::sequence::{BELT_SEQUENCE, FIRST_POSITION};
+use crate::sequence::{COUNT, FIRST_POSITION, TRUTH, UNIT, belt_sequence, truth};
 use engine::answers::RunRefused;
 use engine::states::State;
+use layout::Word;
+use std::alloc::Global;
 use std::io;
 
 // The words of an image in which the belt sequence runs to its end, and of one that is too small for it.
@@ -16,20 +17,29 @@ const TOO_SMALL: usize = 144;
 // The belt sequence is admitted: what it ends with, and what it offers.
 pub fn show_admission(rt: &HostRuntime) -> Result<(), Halt> {
     let mut drive = Drive::new(rt.alloc(), ENOUGH)?;
-    let judged = drive.admit_belt(&BELT_SEQUENCE)?;
-    let words = BELT_SEQUENCE.len();
+    let sequence = encode(rt.alloc(), &belt_sequence())?;
+    let judged = drive.admit_belt(sequence.as_slice())?;
+    let words = sequence.len();
     let value = row_name(judged.row);
     let offers = row_name(judged.yields);
     println!(rt; "{words} words, admitted: its value is {value}, and each set-point is {offers}")?;
     Ok(())
 }
 
+// The words of a sequence as numbers.
+fn encode(heap: Global, sequence: &[Word]) -> Result<Vec<u32>, Halt> {
+    sequence
+        .iter()
+        .map(|word| -> Result<u32, Halt> { Ok(u32::try_from(*word)?) })
+        .try_collect(heap)
+}
+
 // What a value of one of the first rows is.
 fn row_name(row: u16) -> &'static str {
     match row {
-        0 => "unit",
-        2 => "a count",
-        3 => "a truth value",
+        UNIT => "unit",
+        COUNT => "a count",
+        TRUTH => "a truth value",
         _ => "of another type",
     }
 }
@@ -43,7 +53,8 @@ pub fn show_run(rt: &HostRuntime) -> Result<(), Halt> {
 
 // The belt sequence, opened.
 fn open_belt(rt: &HostRuntime, drive: &mut Drive) -> Result<State, Halt> {
-    let opened = drive.open_belt(&BELT_SEQUENCE)?;
+    let sequence = encode(rt.alloc(), &belt_sequence())?;
+    let opened = drive.open_belt(sequence.as_slice())?;
     let words = drive.image_words();
     print!(rt; "opened in an image of {words} words: ")?;
     print_state(rt, drive, &opened)?;
@@ -62,10 +73,11 @@ fn run_to_end(
 
 // A sequence whose types do not fit is not opened.
 pub fn show_refused(rt: &HostRuntime) -> Result<(), Halt> {
-    let mut sequence = BELT_SEQUENCE;
-    sequence[FIRST_POSITION] = TRUTH + 1;
+    let mut sequence = belt_sequence();
+    sequence[FIRST_POSITION] = truth(1);
+    let sequence = encode(rt.alloc(), &sequence)?;
     let mut drive = Drive::new(rt.alloc(), ENOUGH)?;
-    match drive.open_belt(&sequence) {
+    match drive.open_belt(sequence.as_slice()) {
         Ok(opened) => print_state(rt, &drive, &opened)?,
         Err(fault) => println!(rt; "not opened: {fault}")?,
     }
@@ -86,6 +98,7 @@ pub fn show_full_image(rt: &HostRuntime) -> Result<(), Halt> {
             println!(rt; "the image now has {words} words")?;
             run_to_end(rt, &mut drive, seen, going)
         }
+        // Kept: the other refusals pass through a match that takes one of them apart.
         Err(halt) => Err(halt),
     }
 }

@@ -1,38 +1,20 @@
 // What is answered to a line.
 use crate::command::SetName;
-use engine::states::State;
+use calls::states::Status;
 use faults::Fault;
 use faults::numbers::Layer;
 use rules::model::Judged;
 use std::fmt;
-
-// The state of a run, as it is named in answers.
-#[derive(Clone, Copy)]
-pub enum Phase {
-    Going,
-    Offering,
-    Ended,
-}
-
-impl Phase {
-    pub fn of(state: &State) -> Phase {
-        match state {
-            State::Going(_) => Phase::Going,
-            State::Offering(_) => Phase::Offering,
-            State::Ended(_) => Phase::Ended,
-        }
-    }
-}
 
 #[derive(Drop)]
 pub enum Answer {
     Set(SetName),
     Program(usize),
     Admit(Judged),
-    Open(Phase),
-    Run { made: u16, phase: Phase },
+    Open(Status),
+    Run { made: u16, status: Status },
     Show { place: usize, words: Vec<u32> },
-    Take(Phase),
+    Take(Status),
     Image(Vec<u32>),
     Load(usize),
     // A call was refused.
@@ -49,45 +31,41 @@ pub enum Answer {
 
 impl fmt::Display for SetName {
     fn fmt<W: fmt::Write>(&self, f: &mut fmt::Formatter<W>) -> fmt::Result {
-        match self {
-            SetName::Counts => f.write_str("counts"),
-            SetName::Interlocks => f.write_str("interlocks"),
-        }
+        f.write_str(match self {
+            SetName::Counts => "counts",
+            SetName::Interlocks => "interlocks",
+        })
     }
 }
 
-impl fmt::Display for Phase {
+// Words as they stand in answers, each after a space.
+#[derive(Drop)]
+struct Words<'a>(&'a [u32]);
+
+impl fmt::Display for Words<'_> {
     fn fmt<W: fmt::Write>(&self, f: &mut fmt::Formatter<W>) -> fmt::Result {
-        match self {
-            Phase::Going => f.write_str("going"),
-            Phase::Offering => f.write_str("offering"),
-            Phase::Ended => f.write_str("ended"),
+        for word in self.0 {
+            write!(f, " {:08X}", *word)?;
         }
+        Ok(())
     }
 }
 
-// The layer of a fault, as it is named in answers.
-fn layer_name(fault: Fault) -> &'static str {
-    match fault.layer() {
-        Layer::Form => "form",
-        Layer::Check => "check",
-        Layer::Engine => "engine",
-    }
-}
+// A fault as it stands in answers.
+#[derive(Drop)]
+struct Refusal(Fault);
 
-fn write_words<W: fmt::Write>(f: &mut fmt::Formatter<W>, words: &[u32]) -> fmt::Result {
-    for word in words {
-        let number = *word;
-        write!(f, " {number:08X}")?;
+impl fmt::Display for Refusal {
+    fn fmt<W: fmt::Write>(&self, f: &mut fmt::Formatter<W>) -> fmt::Result {
+        let layer = match self.0.layer() {
+            Layer::Form => "form",
+            Layer::Check => "check",
+            Layer::Engine => "engine",
+        };
+        let number = u8::from(self.0.number());
+        let place = self.0.place();
+        write!(f, "fault {layer} {number} {place}")
     }
-    Ok(())
-}
-
-fn write_fault<W: fmt::Write>(f: &mut fmt::Formatter<W>, fault: Fault) -> fmt::Result {
-    let layer = layer_name(fault);
-    let number = fault.number().number();
-    let place = fault.place();
-    write!(f, "fault {layer} {number} {place}")
 }
 
 impl fmt::Display for Answer {
@@ -95,28 +73,15 @@ impl fmt::Display for Answer {
         match self {
             Answer::Set(name) => write!(f, "set {name}"),
             Answer::Program(count) => write!(f, "program {count}"),
-            Answer::Admit(judged) => {
-                let row = judged.row;
-                let yields = judged.yields;
-                write!(f, "admit type {row} yield {yields}")
-            }
-            Answer::Open(phase) => write!(f, "open {phase}"),
-            Answer::Run { made, phase } => write!(f, "run {made} {phase}"),
-            Answer::Show { place, words } => {
-                write!(f, "show {place}")?;
-                write_words(f, words.as_slice())
-            }
-            Answer::Take(phase) => write!(f, "take {phase}"),
-            Answer::Image(words) => {
-                f.write_str("image")?;
-                write_words(f, words.as_slice())
-            }
+            Answer::Admit(Judged { row, yields }) => write!(f, "admit type {row} yield {yields}"),
+            Answer::Open(status) => write!(f, "open {status}"),
+            Answer::Run { made, status } => write!(f, "run {made} {status}"),
+            Answer::Show { place, words } => write!(f, "show {place}{}", Words(words.as_slice())),
+            Answer::Take(status) => write!(f, "take {status}"),
+            Answer::Image(words) => write!(f, "image{}", Words(words.as_slice())),
             Answer::Load(count) => write!(f, "load {count}"),
-            Answer::Refused(fault) => write_fault(f, *fault),
-            Answer::RunRefused { fault, made } => {
-                write_fault(f, *fault)?;
-                write!(f, " made {made}")
-            }
+            Answer::Refused(fault) => write!(f, "{}", Refusal(*fault)),
+            Answer::RunRefused { fault, made } => write!(f, "{} made {made}", Refusal(*fault)),
             Answer::State => f.write_str("state"),
             Answer::Bad => f.write_str("bad"),
             Answer::Dirty => f.write_str("dirty"),

@@ -49,8 +49,5 @@ pub fn decimal(text: &[u8]) -> Option<u16>
     if text.is_empty() {
         return None;
     }
-    match number_in(text, 10, 65_535) {
-        Some(number) => Some(number as u16),
-        None => None,
-    }
+    number_in(text, 10, 65_535).map(|number| number as u16)
 }

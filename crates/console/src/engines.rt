@@ -10,6 +10,7 @@ use quantities::interlocks::Interlocks;
 use rules::model::Judged;
 use typing::model::{Frame, Scoped};
 
+// Kept: a match in each call; a set's meaning belongs to its type, so no one set stands for both, and a `dyn` of the calls is no shorter.
 #[derive(Drop)]
 pub enum AnyEngine {
     Counts(Engine<Counts>),

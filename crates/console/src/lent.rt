@@ -38,40 +38,13 @@ pub fn rubbish_judgements(heap: Global, len: u16) -> Result<Vec<Frame>, AllocErr
 }
 
 // Whether all words are zero.
+// Kept: here beside the image reader's own, which is no public function for the sake of one line.
 pub fn are_zero(words: &[u32]) -> bool {
-    for word in words {
-        if *word != 0 {
-            return false;
-        }
-    }
-    true
+    words.iter().all(|word| *word == 0)
 }
 
-fn is_no_judgement(judged: Judged) -> bool {
-    judged.row == 0 && judged.yields == 0
-}
-
-fn is_zero_frame(frame: &Frame) -> bool {
-    frame.word == 0
-        && frame.place == 0
-        && frame.done == 0
-        && is_no_judgement(frame.first)
-        && is_no_judgement(frame.second)
-        && is_no_judgement(frame.third)
-        && is_no_judgement(frame.fourth)
-}
-
-// Whether all numbers in both work lists are zero.
+// Whether all entries of both work lists are blank, all numbers zero.
 pub fn is_work_zero(scopes: &[Scoped], judgements: &[Frame]) -> bool {
-    for scoped in scopes {
-        if scoped.variable.name != 0 || scoped.variable.row != 0 {
-            return false;
-        }
-    }
-    for frame in judgements {
-        if !is_zero_frame(frame) {
-            return false;
-        }
-    }
-    true
+    scopes.iter().all(|scoped| *scoped == Scoped::default())
+        && judgements.iter().all(|frame| *frame == Frame::default())
 }

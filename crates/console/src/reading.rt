@@ -11,14 +11,8 @@ pub fn read_command(heap: Global, line: &[u8]) -> Result<Option<Command>, AllocE
         return Ok(None);
     };
     match *name {
-        b"program" => match read_words(heap, parts)? {
-            Some(words) => Ok(Some(Command::Program(words))),
-            None => Ok(None),
-        },
-        b"load" => match read_words(heap, parts)? {
-            Some(words) => Ok(Some(Command::Load(words))),
-            None => Ok(None),
-        },
+        b"program" => Ok(read_words(heap, parts)?.map(Command::Program)),
+        b"load" => Ok(read_words(heap, parts)?.map(Command::Load)),
         _ => Ok(read_short(*name, parts)),
     }
 }
@@ -91,12 +85,8 @@ fn read_take(parts: &[&[u8]]) -> Option<Command> {
 
 // Words, if all can be read.
 fn read_words(heap: Global, parts: &[&[u8]]) -> Result<Option<Vec<u32>>, AllocError> {
-    let mut words = Vec::new(heap);
-    for part in parts {
-        match hex_word(*part) {
-            Some(word) => words.push(word)?,
-            None => return Ok(None),
-        }
-    }
-    Ok(Some(words))
+    parts
+        .iter()
+        .map(|part| hex_word(*part))
+        .collect::<Option<Vec<u32>>>(heap)
 }

@@ -1,5 +1,5 @@
 // The commands of a run that was opened.
-use crate::answer::{Answer, Phase};
+use crate::answer::Answer;
 use crate::lent::{are_zero, rubbish_words};
 use crate::session::{Opened, Session};
 use engine::answers::Shown;
@@ -42,14 +42,11 @@ impl Session {
                     .run(going, steps, image.as_mut_slice(), spare.as_mut_slice());
                 let (state, answer) = match ran {
                     Ok(ran) => {
-                        let phase = Phase::of(&ran.state);
-                        (
-                            ran.state,
-                            Answer::Run {
-                                made: ran.made,
-                                phase,
-                            },
-                        )
+                        let answer = Answer::Run {
+                            made: ran.made,
+                            status: ran.state.status(),
+                        };
+                        (ran.state, answer)
                     }
                     Err(refused) => {
                         let answer = Answer::RunRefused {
@@ -83,8 +80,8 @@ impl Session {
                     .take(offering, image.as_mut_slice(), spare.as_mut_slice());
                 let (state, answer) = match taken {
                     Ok(state) => {
-                        let phase = Phase::of(&state);
-                        (state, Answer::Take(phase))
+                        let answer = Answer::Take(state.status());
+                        (state, answer)
                     }
                     Err(refused) => (
                         State::Offering(refused.state),
@@ -123,15 +120,10 @@ impl Session {
     // Foreign words for the image; the state stays.
     pub fn load(&mut self, words: Vec<u32>) -> Answer {
         let count = words.len();
-        match self.opened.take() {
-            Some(Opened { state, image: _ }) => {
-                self.opened = Some(Opened {
-                    state,
-                    image: words,
-                });
-                Answer::Load(count)
-            }
-            None => Answer::State,
-        }
+        let Some(opened) = &mut self.opened else {
+            return Answer::State;
+        };
+        opened.image = words;
+        Answer::Load(count)
     }
 }

@@ -1,5 +1,5 @@
 // What the console holds between lines, and what it answers to each.
-use crate::answer::{Answer, Phase};
+use crate::answer::Answer;
 use crate::command::{Command, Lengths, SetName};
 use crate::engines::AnyEngine;
 use crate::lent::{are_zero, is_work_zero, rubbish_judgements, rubbish_scopes, rubbish_words};
@@ -79,10 +79,7 @@ impl Session {
         if !is_work_zero(scopes.as_slice(), judgements.as_slice()) {
             return Ok(Answer::Dirty);
         }
-        match admitted {
-            Ok(judged) => Ok(Answer::Admit(judged)),
-            Err(fault) => Ok(Answer::Refused(fault)),
-        }
+        Ok(admitted.map_or_else(Answer::Refused, Answer::Admit))
     }
 
     // Opens the program on a new image; where that is refused, a run that was open stays.
@@ -103,9 +100,9 @@ impl Session {
         }
         match opened {
             Ok(state) => {
-                let phase = Phase::of(&state);
+                let answer = Answer::Open(state.status());
                 self.opened = Some(Opened { state, image });
-                Ok(Answer::Open(phase))
+                Ok(answer)
             }
             Err(fault) => Ok(Answer::Refused(fault)),
         }

@@ -1,11 +1,12 @@
 // Sequences, admitted or refused.
 use admission::admitting::admit;
 use quantities::counts::Counts;
-use rules::model::{Judged, Shape, Variable};
+use rules::model::Shape;
 use rules::table::shape_at;
 use std::io;
 use typing::model::{Frame, Scoped};
 
+// Kept: numbers, as a drive gets them.
 // Hands out the set-points 10 and 20: a coroutine that yields 20, applied to a yield of 10. Row 4 is a coroutine type from Unit, which
 // yields counts and gives Unit.
 const TWO_SET_POINTS: [u32; 12] = [
@@ -23,42 +24,21 @@ const TWO_SET_POINTS: [u32; 12] = [
     0x5000_000A,
 ];
 
-// The same, but the first set-point is the truth value 1, which is no count.
-const MIXED_SET_POINTS: [u32; 12] = [
-    0xB000_1805,
-    0x8000_0000,
-    0x8800_0000,
-    0x9000_0000,
-    0x9000_0001,
-    0xA000_0400,
-    0x2000_0000,
-    0x1800_4000,
-    0x2800_0000,
-    0x5000_0014,
-    0x2800_0000,
-    0x5100_0001,
-];
+// The place of the word of the first set-point.
+const FIRST_SET_POINT: usize = 11;
 
 pub fn show_admission(rt: &HostRuntime) -> io::Result<()> {
     show_admitted(rt, &TWO_SET_POINTS)?;
-    show_admitted(rt, &MIXED_SET_POINTS)
+    // The first set-point is the truth value 1, which is no count.
+    let mut mixed = TWO_SET_POINTS;
+    mixed[FIRST_SET_POINT] = 0x5100_0001;
+    show_admitted(rt, &mixed)
 }
 
 // What admit answers for a program over counts.
 fn show_admitted(rt: &HostRuntime, program: &[u32]) -> io::Result<()> {
-    let none = Judged { row: 0, yields: 0 };
-    let mut scopes = [Scoped {
-        variable: Variable { name: 0, row: 0 },
-    }; 256];
-    let mut judgements = [Frame {
-        word: 0,
-        place: 0,
-        done: 0,
-        first: none,
-        second: none,
-        third: none,
-        fourth: none,
-    }; 256];
+    let mut scopes = [Scoped::default(); 256];
+    let mut judgements = [Frame::default(); 256];
     match admit(&Counts, program, &mut scopes, &mut judgements) {
         Ok(judged) => {
             show_row(rt, "type", &program[1..], judged.row)?;

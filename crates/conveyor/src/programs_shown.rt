@@ -2,6 +2,7 @@
 use form::reading::read_program;
 use std::io;
 
+// Kept: numbers, since this stage shows how the form reader takes numbers apart.
 // A yield of the count 5.
 const OFFER: [u32; 7] = [
     0xB000_0804,

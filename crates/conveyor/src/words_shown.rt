@@ -21,12 +21,12 @@ const PROGRAM: [Word; 7] = [
 
 pub fn show_program(rt: &HostRuntime) -> io::Result<()> {
     for word in PROGRAM {
-        match word.build() {
-            Some(number) => {
+        match u32::try_from(word) {
+            Ok(number) => {
                 let parts = word.parts();
                 println!(rt; "{number:08X} is {word:?}, parts {parts}")?;
             }
-            None => println!(rt; "{word:?} does not fit a word")?,
+            Err(_) => println!(rt; "{word:?} does not fit a word")?,
         }
     }
     Ok(())
@@ -35,13 +35,13 @@ pub fn show_program(rt: &HostRuntime) -> io::Result<()> {
 // A unit with a bit that has no use, a kind that there is not, and a name that is too large.
 pub fn show_stray_bits(rt: &HostRuntime) -> io::Result<()> {
     for number in [0x0000_0001u32, 0xC000_0000, 0x0800_1000] {
-        match Word::read(number) {
-            Some(word) => println!(rt; "{number:08X} is {word:?}")?,
-            None => println!(rt; "{number:08X} is no word")?,
+        match Word::try_from(number) {
+            Ok(word) => println!(rt; "{number:08X} is {word:?}")?,
+            Err(error) => println!(rt; "{error}")?,
         }
     }
-    match (Word::Variable { name: 4096 }).build() {
-        Some(number) => println!(rt; "{number:08X}"),
-        None => println!(rt; "a variable's name ends at 4095"),
+    match u32::try_from(Word::Variable { name: 4096 }) {
+        Ok(number) => println!(rt; "{number:08X}"),
+        Err(_) => println!(rt; "a variable's name ends at 4095"),
     }
 }

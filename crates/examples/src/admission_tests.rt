@@ -1156,6 +1156,23 @@ const TERMS: [(&[u32], u8, usize, usize); 101] = [
     ),
 ];
 
+// The blank entries.
+const NOBODY: Scoped = Scoped {
+    variable: Variable { name: 0, row: 0 },
+};
+
+const NONE: Judged = Judged { row: 0, yields: 0 };
+
+const FRESH: Frame = Frame {
+    word: 0,
+    place: 0,
+    done: 0,
+    first: NONE,
+    second: NONE,
+    third: NONE,
+    fourth: NONE,
+};
+
 // An entry that is not blank.
 fn rubbish_scoped() -> Scoped {
     Scoped {
@@ -1179,33 +1196,12 @@ fn rubbish_frame() -> Frame {
 
 // Whether all entries are blank.
 fn all_nobody(scopes: &[Scoped]) -> bool {
-    for entry in scopes {
-        if entry.variable.name != 0 || entry.variable.row != 0 {
-            return false;
-        }
-    }
-    true
-}
-
-// Whether a judgement is blank.
-fn is_none(judged: Judged) -> bool {
-    judged.row == 0 && judged.yields == 0
+    scopes.iter().all(|entry| *entry == NOBODY)
 }
 
 // Whether all entries are blank.
 fn all_fresh(judgements: &[Frame]) -> bool {
-    for entry in judgements {
-        if entry.word != 0 || entry.place != 0 || entry.done != 0 {
-            return false;
-        }
-        if !is_none(entry.first) || !is_none(entry.second) {
-            return false;
-        }
-        if !is_none(entry.third) || !is_none(entry.fourth) {
-            return false;
-        }
-    }
-    true
+    judgements.iter().all(|entry| *entry == FRESH)
 }
 
 // What is answered over these lists; number 255 where they are not blank afterwards.
@@ -1220,7 +1216,7 @@ fn answer_over(
     }
     match answered {
         Ok(judged) => (0, judged.row as usize, judged.yields as usize),
-        Err(fault) => (fault.number().number(), fault.place(), 0),
+        Err(fault) => (u8::from(fault.number()), fault.place(), 0),
     }
 }
 

@@ -29,7 +29,7 @@ fn each_fault_has_its_number_and_layer(rt: HostRuntime) {
     for (fault, number, layer) in FAULTS {
         let made = Fault::new(fault, 7);
         assert_eq!(rt; made.number(), fault);
-        assert_eq!(rt; made.number().number(), number);
+        assert_eq!(rt; u8::from(made.number()), number);
         assert_eq!(rt; made.layer(), layer);
         assert_eq!(rt; made.place(), 7);
     }

@@ -327,7 +327,7 @@ const PROGRAMS: [(&[u32], u8, usize); 24] = [
 fn answer(words: &[u32]) -> (u8, usize) {
     match read_program(words, 2) {
         Ok(_) => (0, 0),
-        Err(fault) => (fault.number().number(), fault.place()),
+        Err(fault) => (u8::from(fault.number()), fault.place()),
     }
 }
 

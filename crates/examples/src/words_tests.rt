@@ -1,4 +1,4 @@
-use layout::Word;
+use layout::{NoWord, WideField, Word};
 use words::kinds::Kind;
 
 // Words at both ends of each field, with their numbers.
@@ -182,9 +182,9 @@ const WORDS: [(Word, u32); 45] = [
 #[test]
 fn words_are_built_and_read_back(rt: HostRuntime) {
     for (word, number) in WORDS {
-        assert_eq!(rt; word.build(), Some(number));
-        assert_eq!(rt; Word::read(number), Some(word));
-        assert_eq!(rt; Kind::of_number((number >> 27) as u8), Some(word.kind()));
+        assert_eq!(rt; u32::try_from(word), Ok(number));
+        assert_eq!(rt; Word::try_from(number), Ok(word));
+        assert_eq!(rt; Kind::try_from((number >> 27) as u8), Ok(word.kind()));
     }
 }
 
@@ -244,7 +244,7 @@ const TOO_LARGE: [Word; 17] = [
 #[test]
 fn fields_that_do_not_fit_are_refused(rt: HostRuntime) {
     for word in TOO_LARGE {
-        assert_eq!(rt; word.build(), None);
+        assert_eq!(rt; u32::try_from(word), Err(WideField { word }));
     }
 }
 
@@ -271,7 +271,7 @@ const NO_WORDS: [u32; 16] = [
 #[test]
 fn stray_bits_and_kinds_are_refused(rt: HostRuntime) {
     for number in NO_WORDS {
-        assert_eq!(rt; Word::read(number), None);
+        assert_eq!(rt; Word::try_from(number), Err(NoWord { number }));
     }
 }
 

@@ -2,9 +2,9 @@
 #![tactic(auto)]
 
 use admission::admitting::admit;
+use layout::Word;
 use quantities::counts::Counts;
-use rules::model::{Judged, Variable};
-use std::alloc::{AllocError, Global};
+use std::alloc::Global;
 use std::env;
 use std::time::Instant;
 use typing::model::{Frame, Scoped};
@@ -29,67 +29,58 @@ fn main(rt: HostRuntime) -> anyhow::Result<()> {
 }
 
 // Admits a program and prints how long a call took.
-fn measure(rt: &HostRuntime, levels: u8, rows: u32) -> anyhow::Result<()> {
+fn measure(rt: &HostRuntime, levels: u8, rows: u16) -> anyhow::Result<()> {
     let program = tree(rt.alloc(), levels, rows)?;
     let start = Instant::now(rt)?;
-    let mut admitted = 0u64;
-    for _ in 0..TIMES {
-        if is_admitted(program.as_slice()) {
-            admitted = admitted.saturating_add(1);
-        }
-    }
+    let admitted = (0..TIMES)
+        .filter(|_| is_admitted(program.as_slice()))
+        .count();
     let nanos = start.elapsed(rt)?.as_nanos() / TIMES as u128;
-    let words = program.len().saturating_sub(rows as usize + 1);
+    let words = program.len().saturating_sub(usize::from(rows) + 1);
     println!(rt; "{words}, {rows}: {nanos} ({admitted} of {TIMES} admitted)")?;
     Ok(())
 }
 
 // Whether a program over counts is admitted.
 fn is_admitted(program: &[u32]) -> bool {
-    let none = Judged { row: 0, yields: 0 };
-    let mut scopes = [Scoped {
-        variable: Variable { name: 0, row: 0 },
-    }; 256];
-    let mut judgements = [Frame {
-        word: 0,
-        place: 0,
-        done: 0,
-        first: none,
-        second: none,
-        third: none,
-        fourth: none,
-    }; 256];
+    let mut scopes = [Scoped::default(); 256];
+    let mut judgements = [Frame::default(); 256];
     admit(&Counts, program, &mut scopes, &mut judgements).is_ok()
 }
 
 // A yield of a complete tree of sums over so many levels, so 2 to the power of that many term words, with a table of so many rows.
-fn tree(heap: Global, levels: u8, rows: u32) -> Result<Vec<u32>, AllocError> {
-    let words = 1u32 << (levels % 16);
+fn tree(heap: Global, levels: u8, rows: u16) -> anyhow::Result<Vec<u32>> {
+    let term_words = 1u16 << (levels % 16);
     let mut program = Vec::new(heap);
-    program.push(
-        0xB000_0000u32
-            .wrapping_add(words.wrapping_mul(0x400))
-            .wrapping_add(rows),
-    )?;
-    for row in [0x8000_0000, 0x8800_0000, 0x9000_0000, 0x9000_0001] {
-        program.push(row)?;
+    program.push(Word::ProgramHead { rows, term_words })?;
+    program.push(Word::UnitType)?;
+    program.push(Word::BottomType)?;
+    program.push(Word::BaseType { base: 0 })?;
+    program.push(Word::BaseType { base: 1 })?;
+    for before in 3..rows.saturating_sub(1) {
+        program.push(Word::FunctionType {
+            argument: before,
+            result: before,
+        })?;
     }
-    for row in 4..rows {
-        let before = row.saturating_sub(1);
-        program.push(0x9800_0000u32.wrapping_add(before.wrapping_mul(0x201)))?;
-    }
-    program.push(0x2800_0000)?;
+    program.push(Word::Yield)?;
     let mut open = Vec::new(heap);
     open.push(levels)?;
-    for _ in 1..words {
+    for _ in 1..term_words {
         let level = open.pop().unwrap_or(1);
         if level > 1 {
-            program.push(0x5800_0000)?;
+            program.push(Word::Operation { number: 0 })?;
             open.push(level - 1)?;
             open.push(level - 1)?;
         } else {
-            program.push(0x5000_0001)?;
+            program.push(Word::Atom {
+                base: 0,
+                payload: 1,
+            })?;
         }
     }
-    Ok(program)
+    program
+        .iter()
+        .map(|word| -> anyhow::Result<u32> { Ok(u32::try_from(*word)?) })
+        .try_collect(heap)
 }

@@ -26,7 +26,7 @@ pub fn admit<Q: QuantitySet>(
     ensures scopes { scopes.new ≡ replicate (length scopes.old) nobody }
     ensures judgements { judgements.new ≡ replicate (length judgements.old) (fresh 0 0) }
 {
-    // Kept: cleared and counted here and where a program is opened, since that call looks at lengths in between.
+    // Kept: cleared and counted here and where a program is opened, which tests the lengths of image and spare in between.
     clear(&mut *scopes);
     clear(&mut *judgements);
     if scopes.len() < 256 || judgements.len() < 256 {

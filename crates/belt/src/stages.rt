@@ -98,7 +98,7 @@ pub fn show_full_image(rt: &HostRuntime) -> Result<(), Halt> {
             println!(rt; "the image now has {words} words")?;
             run_to_end(rt, &mut drive, seen, going)
         }
-        // Kept: the other refusals pass through a match that takes one of them apart.
+        // Kept: an arm that hands on; a `?` before the match would hand on the refused tick too.
         Err(halt) => Err(halt),
     }
 }

@@ -38,7 +38,7 @@ pub fn rubbish_judgements(heap: Global, len: u16) -> Result<Vec<Frame>, AllocErr
 }
 
 // Whether all words are zero.
-// Kept: here beside the image reader's own, which is no public function for the sake of one line.
+// Kept: a line here and in the image reader; a public function for it would need a contract and an edit for one call of the library.
 pub fn are_zero(words: &[u32]) -> bool {
     words.iter().all(|word| *word == 0)
 }

@@ -6,7 +6,7 @@ use rules::table::shape_at;
 use std::io;
 use typing::model::{Frame, Scoped};
 
-// Kept: numbers, as a drive gets them.
+// Kept: numbers, since the stage shows what a drive lends; values of `Word` would be made numbers before they are shown.
 // Hands out the set-points 10 and 20: a coroutine that yields 20, applied to a yield of 10. Row 4 is a coroutine type from Unit, which
 // yields counts and gives Unit.
 const TWO_SET_POINTS: [u32; 12] = [

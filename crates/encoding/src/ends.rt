@@ -15,9 +15,9 @@ pub fn end_of(words: &[u32], at: usize) -> Option<usize>
     ensures known { (t : Term) → Stands t words.now at → result ≡ Some (at + size t) }
     ensures bounds { IfSome result (λ e. (at < e) × (e ≤ length words.now)) }
 {
-    // Kept: terms to come are counted here and in the walks of image and path, which stop at words of their own.
     let rest = words.get(at..)?;
     // How many terms are still to come.
+    // Kept: counted here and in walks of image and path; each stops at words of its own, so one walk would take that test as a parameter.
     let mut pending = 1;
     for (passed, word) in rest.iter().enumerate() {
         if !is_term_word(*word) {

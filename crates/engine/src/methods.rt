@@ -22,7 +22,7 @@ use rules::model::Judged;
 use typing::model::{Frame, Scoped};
 
 // Kept: each call hands over to one function, which has several ways out; here each theorem is owed on one way alone.
-// Kept: slices lent one by one, here and below; a clause on a struct of two can name what they hold afterwards only as `work.exit.0`.
+// Kept: slices lent one by one, here and in what is called; a clause on a struct of two names what they hold at the end as `work.exit.0`.
 impl<Q: QuantitySet> Engine<Q> {
     // An engine over a set.
     pub fn new(set: Q) -> Self

@@ -24,7 +24,7 @@ pub(crate) fn run_image<Q: QuantitySet>(
     ensures spare { spare.new ≡ replicate (length spare.old) 0 }
 {
     let guard = Zeroing { words: spare };
-    // Kept: a closure of `map_err` would take the state, which the answer below needs too.
+    // Kept: two refusals that hand the state back; an inner function with `?` would need a contract that says what this one says.
     if let Err(fault) = check_entry_with(image, guard.words.len(), Status::Going) {
         return Err(RunRefused {
             fault,

@@ -21,7 +21,7 @@ pub(crate) fn take_image(
     ensures spare { spare.new ≡ replicate (length spare.old) 0 }
 {
     let guard = Zeroing { words: spare };
-    // Kept: a match, as in `run_image`; a closure of `map_err` would take the state in both cases.
+    // Kept: a match; tried as `map_err` with `?`: the step from the mapped answer back to that of the test stayed open on both ways out.
     match check_entry_with(image, guard.words.len(), Status::Offering) {
         Ok(()) => {
             take_term(image, &mut *guard.words);

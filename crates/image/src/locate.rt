@@ -10,7 +10,7 @@ use encoding::ends::end_of;
 use encoding::first::arity;
 
 // The place behind the term at a place; that place where no term stands there.
-// Kept: a place in every case, since each caller asks at a term, and a function that cannot fail stays one.
+// Kept: a place in every case; an Option would be taken off by each caller, all of which ask at a term.
 pub fn past(words: &[u32], at: usize) -> usize
     ensures value { (t : Term) (rest : List ℕ) → At t rest at words.now → Passed t rest at result words.now }
     ensures bounds { (at ≤ result) × (result ≤ at + length words.now) }

@@ -1,5 +1,5 @@
 // The lines of a step that read or change a binding: each writes the words of the successor from word 1 on.
-ghost use Rattle.std.specs.Prelude.{◌≡◌, ℕ, ◌+◌, ◌≤◌, length};
+ghost use Rattle.std.specs.Prelude.{◌≡◌, ℕ, ◌+◌, ◌^◌, ◌<◌, ◌≤◌, length};
 ghost use Rattle.calculus.specs.Lists.{at as entry, put};
 ghost use Rattle.calculus.specs.Terms.{Term, application, start, resume, snapshot, resumption, suspension};
 ghost use Rattle.calculus.specs.Configurations.{Binding, ready, Configuration, ◌∣◌};
@@ -21,6 +21,7 @@ impl Redex<'_> {
 
     // The start becomes an instance with the next label; its binding is ready with the coroutine's body, the argument for its name.
     pub fn write_start(&self, spare: &mut [u32]) -> Option<usize>
+        requires { self.now.bindings < 2 ^ 12 }
         ensures { (c : Configuration) (K : Term → Term) (i : ℕ) (f v : Term) → Stands self.now c (start i f v) K → self.now.bindings ≡ length c.bindings
             → Lined result spare.old spare.new K (started i (view f) v c.bindings) }
     {
@@ -137,6 +138,7 @@ impl Redex<'_> {
 
     // The snapshot becomes an instance with the next label and the row of the binding that is copied to the end.
     pub fn write_copy(&self, spare: &mut [u32]) -> Option<usize>
+        requires { self.now.bindings < 2 ^ 12 }
         ensures { (c : Configuration) (K : Term → Term) (f : Term) → Stands self.now c (snapshot f) K → self.now.bindings ≡ length c.bindings
             → Lined result spare.old spare.new K (copies (view f) c.bindings) }
     {

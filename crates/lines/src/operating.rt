@@ -16,7 +16,7 @@ use words::kinds::Kind;
 use writing::writer::{Writer, get};
 
 // The base and the payload that operation o gives for payload p of base j and payload q of base k, if it takes them.
-// Kept: operands as numbers, in the order in which the definition takes them.
+// Kept: six numbers; a struct of payload and base would be made at the one call and taken apart in the next lines.
 fn operate<Q: QuantitySet>(set: &Q, o: u8, p: u32, j: u8, q: u32, k: u8) -> Option<(u8, u32)>
     ensures value { (μ : Bindings) → Operated result μ (operated Q.meaning o p j q k (Q.meaning.signature o) μ) }
     ensures bounds { IfSome result (λ w. (w.0 < 8) × (w.1 < 2 ^ 24)) }

@@ -18,6 +18,7 @@ use words::fields::name;
 use words::kinds::Kind;
 use writing::writer::{Writer, get};
 
+// Kept: each line, here and in the other files, writes out what is before and behind the term, so that it reads as the list of its words.
 impl Redex<'_> {
     ghost use Rattle.lines.specs.Standing.{Stands};
 

@@ -1,5 +1,5 @@
 // Which line of a step applies.
-ghost use Rattle.std.specs.Prelude.{◌≡◌, length};
+ghost use Rattle.std.specs.Prelude.{◌≡◌, ◌^◌, ◌<◌, length};
 ghost use Rattle.calculus.specs.Configurations.{Configuration};
 ghost use Rattle.calculus.specs.Places.{place};
 ghost use Rattle.calculus.specs.Next.{next};
@@ -20,6 +20,7 @@ pub fn write_line<Q: QuantitySet>(
     redex: &Redex,
     spare: &mut [u32],
 ) -> Option<(usize, usize)>
+    requires { redex.now.bindings < 2 ^ 12 }
     ensures { (c : Configuration) → Image redex.now.image.now c → redex.now.place ≡ place c.term → redex.now.used ≡ Used c
         → redex.now.bindings ≡ length c.bindings
         → Turned result spare.old spare.new (next Q.meaning c.term c.bindings) }

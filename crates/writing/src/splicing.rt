@@ -2,7 +2,7 @@
 ghost use Rattle.std.specs.Prelude.{◌≡◌, ◌-◌, ◌≤◌, ◌++◌, length, take, replicate};
 ghost use Rattle.writing.specs.Writing.{Wrote};
 
-// Kept: apart from the writer, so that the one copy of words into a slice is proved by itself.
+// Kept: apart from the writer, its one caller: the copy and its bound are proved here, and what holds behind the end there.
 // Copies words from a place on. Nothing is answered where they do not fit.
 pub fn put(out: &mut [u32], at: usize, new: &[u32]) -> Option<usize>
     requires { at ≤ length out.old }

@@ -9,7 +9,7 @@ use crate::splicing::put;
 use std::ops::Range;
 
 // The word at a place, 0 behind the end.
-// Kept: a word in every case, since each caller asks at a place among the words, and a function that cannot fail stays one.
+// Kept: a word in every case; an Option would be taken off by each caller, all of which ask at a place among the words.
 pub fn get(words: &[u32], i: usize) -> u32
     ensures { result ≡ slice_index words.now i }
 {

@@ -19,13 +19,13 @@ KINDS = {
         r"(accept|row|yields) ?(==|!=|\()? ?[01]\b(?=[,);} ])",
     ],
     "1 answers that are a flag, a sentinel or an Option in place of a Result": [
-        r"-> Option<Fault>", r"-> \(u16, Option", r"-> \(\w+, bool\)", r"fn (push|enter|deliver)\(.*-> bool", r"out\.len\(\) \+ 1", r"^\s*NoRow,",
+        r"-> Option<Fault>", r"-> \(u16, Option", r"-> Option<Result<", r"-> Option<\(\)>", r"fn (push|enter|deliver)\(.*-> bool", r"out\.len\(\) \+ 1", r"^\s*NoRow,",
     ],
     "1 Options and Results taken apart by hand": [
-        r"^\s*None => (None|false|return None|return false)\b", r"^\s*None => \w+,$", r"Err\(\w+\) => (return )?Err\(\w+\)", r"None => Ok\(None\)",
+        r"^\s*None => (None|false|return None|return false)\b", r"^\s*None => \w+,$", r"Err\(\w+\) => (return )?Err\(\w+\)", r"None => (return )?Ok\(None\)",
         r"if let Err\(\w+\) = ", r"if let Some\(fault\) = ",
     ],
-    "3 loops that count by hand": [r"^\s*while (?!let)", r"^\s*loop\b", r"^\s*while let .*(next_word|top)\(\)"],
+    "3 loops that count by hand": [r"^\s*while (?!let)", r"^\s*loop\b", r"^\s*for \w+ in [\w.]+\.\.[\w.]+\.len\(\)", r"^\s*while let .*(next_word|top)\(\)"],
     "4 conversions and printing by hand": [
         r"fn (number|of_number|reason|layer_name|write_words|write_fault|row_name)\(", r"fn (build|read)\((self|word)", r"fn of\(state",
         r"fn is_(zero_frame|no_judgement|same)\(", r"\{ 1 \} else \{ 0 \}", r"let name = match state", r"let none = Judged",
@@ -34,7 +34,7 @@ KINDS = {
         r"const \w+: \[u8; 15\]", r"^\s+(at|len): usize,$", r"out: &mut \[u32\], at: usize", r"^\s+fourth: Judged|^\s+pub fourth: Judged",
         r"pub const [A-Z_]+: u32 = ",
     ],
-    "7 switches by number": [r"match k(ind)? \{|match kind_number\("],
+    "7 switches by number": [r"match k \{|match kind_number\(|match (operation|base) \{"],
 }
 
 
@@ -50,9 +50,14 @@ def functions(text):
             depth += {"(": 1, ")": -1}.get(text[i], 0)
             i += 1
         parameters = re.sub(r"\s+", " ", text[m.end():i - 1])
-        end = text.find("\n{\n", i), text.find("\n    {\n", i), text.find(" {\n", i)
-        head = text[i:min([e for e in end if e >= 0], default=i)]
-        found.append((m[1], parameters, head))
+        head = []
+        for line in text[i:].splitlines():
+            if line.strip() in ("{", "{}") or line.endswith(" {") and "ensures" not in line and "requires" not in line:
+                break
+            head.append(line)
+            if line.endswith(";"):
+                break
+        found.append((m[1], parameters, "\n".join(head).rstrip(";")))
     return found
 
 
@@ -92,10 +97,12 @@ def main():
     print(f"3 searches and tests of all as loops: {len(found)}")
     if listed:
         print("".join(f"    {f}\n" for f in found), end="")
+    kept = sum(len(re.findall(r"^\s*// Kept:", text, re.M)) for _, text in files)
     clauses, groups = repeated(files)
     print(f"5 clauses in three or more functions: {len(clauses)} clauses, {sum(clauses.values())} places")
     if listed:
         print("".join(f"    {n} {c}\n" for c, n in sorted(clauses.items(), key=lambda x: -x[1])), end="")
+    print(f"lines that give the reason of a place that stays: {kept}")
     print(f"5 neighbouring parameters in three or more functions: {len(groups)} pairs, {sum(groups.values())} places")
     if listed:
         print("".join(f"    {n} {g}\n" for g, n in sorted(groups.items(), key=lambda x: -x[1])), end="")

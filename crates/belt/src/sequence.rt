@@ -54,6 +54,9 @@ const POSITION: u16 = 7;
 // By how much the belt has slipped.
 const SLIP: u16 = 8;
 
+// How many words the sequence has.
+pub const WORDS: usize = 92;
+
 // The place of the word that the belt is started with: its first position.
 pub const FIRST_POSITION: usize = 79;
 
@@ -111,7 +114,7 @@ pub fn truth(payload: u32) -> Word {
 }
 
 // The words of the sequence: its head, its rows and its term.
-pub fn belt_sequence() -> [Word; 92] {
+pub fn belt_sequence() -> [Word; WORDS] {
     [
         Word::ProgramHead {
             rows: 14,

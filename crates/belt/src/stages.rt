@@ -2,11 +2,10 @@
 use crate::drive::{Drive, STEPS_A_TICK};
 use crate::halt::Halt;
 use crate::looping::{Seen, print_end, print_state, run_belt};
-use crate::sequence::{COUNT, FIRST_POSITION, TRUTH, UNIT, belt_sequence, truth};
+use crate::sequence::{COUNT, FIRST_POSITION, TRUTH, UNIT, WORDS, belt_sequence, truth};
 use engine::answers::RunRefused;
 use engine::states::State;
-use layout::Word;
-use std::alloc::Global;
+use layout::{WideField, Word};
 use std::io;
 
 // The words of an image in which the belt sequence runs to its end, and of one that is too small for it.
@@ -17,8 +16,8 @@ const TOO_SMALL: usize = 144;
 // The belt sequence is admitted: what it ends with, and what it offers.
 pub fn show_admission(rt: &HostRuntime) -> Result<(), Halt> {
     let mut drive = Drive::new(rt.alloc(), ENOUGH)?;
-    let sequence = encode(rt.alloc(), &belt_sequence())?;
-    let judged = drive.admit_belt(sequence.as_slice())?;
+    let sequence = encode(&belt_sequence())?;
+    let judged = drive.admit_belt(&sequence)?;
     let words = sequence.len();
     let value = row_name(judged.row);
     let offers = row_name(judged.yields);
@@ -27,11 +26,12 @@ pub fn show_admission(rt: &HostRuntime) -> Result<(), Halt> {
 }
 
 // The words of a sequence as numbers.
-fn encode(heap: Global, sequence: &[Word]) -> Result<Vec<u32>, Halt> {
-    sequence
-        .iter()
-        .map(|word| -> Result<u32, Halt> { Ok(u32::try_from(*word)?) })
-        .try_collect(heap)
+fn encode(sequence: &[Word; WORDS]) -> Result<[u32; WORDS], WideField> {
+    let mut numbers = [0; WORDS];
+    for (number, word) in numbers.iter_mut().zip(sequence.iter()) {
+        *number = u32::try_from(*word)?;
+    }
+    Ok(numbers)
 }
 
 // What a value of one of the first rows is.
@@ -53,8 +53,8 @@ pub fn show_run(rt: &HostRuntime) -> Result<(), Halt> {
 
 // The belt sequence, opened.
 fn open_belt(rt: &HostRuntime, drive: &mut Drive) -> Result<State, Halt> {
-    let sequence = encode(rt.alloc(), &belt_sequence())?;
-    let opened = drive.open_belt(sequence.as_slice())?;
+    let sequence = encode(&belt_sequence())?;
+    let opened = drive.open_belt(&sequence)?;
     let words = drive.image_words();
     print!(rt; "opened in an image of {words} words: ")?;
     print_state(rt, drive, &opened)?;
@@ -75,9 +75,9 @@ fn run_to_end(
 pub fn show_refused(rt: &HostRuntime) -> Result<(), Halt> {
     let mut sequence = belt_sequence();
     sequence[FIRST_POSITION] = truth(1);
-    let sequence = encode(rt.alloc(), &sequence)?;
+    let sequence = encode(&sequence)?;
     let mut drive = Drive::new(rt.alloc(), ENOUGH)?;
-    match drive.open_belt(sequence.as_slice()) {
+    match drive.open_belt(&sequence) {
         Ok(opened) => print_state(rt, &drive, &opened)?,
         Err(fault) => println!(rt; "not opened: {fault}")?,
     }

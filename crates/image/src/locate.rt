@@ -1,10 +1,11 @@
 // Where terms end and bindings stand among words that are known to have them.
-ghost use Rattle.std.specs.Prelude.{◌≡◌, ℕ, ◌+◌, ◌≤◌, List, length, Some};
+ghost use Rattle.std.specs.Prelude.{◌≡◌, ℕ, ◌+◌, ◌≤◌, List, length, drop, Some};
 ghost use Rattle.calculus.specs.Lists.{at as entry};
 ghost use Rattle.calculus.specs.Terms.{Term};
 ghost use Rattle.calculus.specs.Configurations.{Binding, Configuration};
 ghost use Rattle.image.specs.Images.{Image};
 ghost use Rattle.image.specs.Places.{At, Passed, Bound};
+ghost use Rattle.image.specs.Seeking.{seek};
 
 use encoding::ends::end_of;
 use encoding::first::arity;
@@ -21,6 +22,7 @@ pub fn past(words: &[u32], at: usize) -> usize
 // Kept: likewise a place in every case, the end where there is no such binding.
 // The place of a label's binding: behind the term at word 1 and as many bindings.
 pub fn binding_at(image: &[u32], label: usize) -> usize
+    ensures seeks { 1 ≤ length image.now → result ≡ seek 1 label 1 (drop 1 image.now) }
     ensures value { (c : Configuration) (β : Binding) → Image image.now c → entry c.bindings label ≡ Some β → Bound image.now c label β result }
     ensures bounds { result ≤ length image.now }
 {

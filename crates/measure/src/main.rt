@@ -52,35 +52,32 @@ fn is_admitted(program: &[u32]) -> bool {
 fn tree(heap: Global, levels: u8, rows: u16) -> anyhow::Result<Vec<u32>> {
     let term_words = 1u16 << (levels % 16);
     let mut program = Vec::new(heap);
-    program.push(Word::ProgramHead { rows, term_words })?;
-    program.push(Word::UnitType)?;
-    program.push(Word::BottomType)?;
-    program.push(Word::BaseType { base: 0 })?;
-    program.push(Word::BaseType { base: 1 })?;
+    program.push(u32::try_from(Word::ProgramHead { rows, term_words })?)?;
+    program.push(u32::try_from(Word::UnitType)?)?;
+    program.push(u32::try_from(Word::BottomType)?)?;
+    program.push(u32::try_from(Word::BaseType { base: 0 })?)?;
+    program.push(u32::try_from(Word::BaseType { base: 1 })?)?;
     for before in 3..rows.saturating_sub(1) {
-        program.push(Word::FunctionType {
+        program.push(u32::try_from(Word::FunctionType {
             argument: before,
             result: before,
-        })?;
+        })?)?;
     }
-    program.push(Word::Yield)?;
+    program.push(u32::try_from(Word::Yield)?)?;
     let mut open = Vec::new(heap);
     open.push(levels)?;
     for _ in 1..term_words {
         let level = open.pop().unwrap_or(1);
         if level > 1 {
-            program.push(Word::Operation { number: 0 })?;
+            program.push(u32::try_from(Word::Operation { number: 0 })?)?;
             open.push(level - 1)?;
             open.push(level - 1)?;
         } else {
-            program.push(Word::Atom {
+            program.push(u32::try_from(Word::Atom {
                 base: 0,
                 payload: 1,
-            })?;
+            })?)?;
         }
     }
-    program
-        .iter()
-        .map(|word| -> anyhow::Result<u32> { Ok(u32::try_from(*word)?) })
-        .try_collect(heap)
+    Ok(program)
 }

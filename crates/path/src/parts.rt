@@ -6,6 +6,8 @@ use encoding::first::arity;
 use image::values::is_value_word;
 
 // The place of the first of so many terms from a place on that is no value.
+// In place in its two callers: a call for each term that is entered made the walk to a deep step take 1.7 times as long.
+#[inline(always)]
 pub(crate) fn first_unfinished(words: &[u32], at: usize, terms: usize) -> Option<usize>
     ensures value { result ≡ unfinished at terms 0 (drop at words.now) }
     ensures bounds { IfSome result (λ q. (at ≤ q) × (q < length words.now)) }

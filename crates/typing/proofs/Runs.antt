@@ -160,9 +160,15 @@ module _ (m : Meaning) (rows : List ℕ) where
         run m rows s n i [] [] (encode t ++ rest) ≡ verdict m rows [] i t
     run_term t f i rest hn hs = runs t f i [] [] rest (omega arith) (omega arith)
 
-    -- what it answers on words in which the term stands
+    -- and on words in which the term stands
+    pub run_standing :
+        (t : Term) (ws : List ℕ) (i : ℕ) → Stands t ws i → depth t ≤ n → depth t ≤ s →
+        run m rows s n i [] [] (drop i ws) ≡ verdict m rows [] i t
+    run_standing t ws i h hn hs =
+        ap (run m rows s n i [] []) (stands_words t ws i h) ∙ run_term t h.0 i (drop (size t) (drop i ws)) hn hs
+
+    -- the same of what it answered, where the lists have 256 entries or more
     pub on_standing :
         (ws : List ℕ) (i : ℕ) (v : Verdict) → v ≡ run m rows s n i [] [] (drop i ws) → (t : Term) → Stands t ws i → depth t ≤ 256 → 256 ≤ s →
         256 ≤ n → v ≡ verdict m rows [] i t
-    on_standing ws i v e t h d hs hn =
-        e ∙ ap (run m rows s n i [] []) (stands_words t ws i h) ∙ run_term t h.0 i (drop (size t) (drop i ws)) (omega arith) (omega arith)
+    on_standing ws i v e t h d hs hn = e ∙ run_standing t ws i h (omega arith) (omega arith)

@@ -27,17 +27,23 @@ loop-passed-preserved c =
           }
     ]
 
-pub returns-else-left-gt0-clause-value : goal.returns-else-left-gt0-clause-value
-returns-else-left-gt0-clause-value c = λ k β m e.
+pub returns-else-left-gt0-clause-seeks : goal.returns-else-left-gt0-clause-seeks
+returns-else-left-gt0-clause-seeks c = λ _.
     let at = c.loop-passed in
     let here = seek_none at.pending at.left (at.passed + 1) (drop at.passed c.in-Some.body.now) c.if-pending-gt0.false c.if-left-gt0.false in
-    bound c.args.image.now k c.args.label β _ m e
-    (sym here ∙ at.invariant.same ∙ ap (λ l. seek 1 c.args.label 1 (drop 1 l)) (sym c.in-Some.ensures.cases.0))
+    sym here ∙ at.invariant.same ∙ ap (λ l. seek 1 c.args.label 1 (drop 1 l)) (sym c.in-Some.ensures.cases.0)
 
-pub returns-clause-value : goal.returns-clause-value
-returns-clause-value c = λ k β m e.
+pub returns-else-left-gt0-clause-value : goal.returns-else-left-gt0-clause-value
+returns-else-left-gt0-clause-value c = λ k β m e.
+    bound c.args.image.now k c.args.label β _ m e (returns-else-left-gt0-clause-seeks c (omega (arith, m.fits.low)))
+
+pub returns-clause-seeks : goal.returns-clause-seeks
+returns-clause-seeks c = λ _.
     let at = c.loop-passed in
     let end : length c.args.image.now ≡ at.passed + 1 = omega (arith, c.in-Some.ensures.cases.1, c.loop-passed-test.false) in
     let here = seek_behind c.in-Some.body.now at.passed at.pending at.left (at.passed + 1) c.loop-passed-test.false in
-    bound c.args.image.now k c.args.label β _ m e
-    (end ∙ sym here ∙ at.invariant.same ∙ ap (λ l. seek 1 c.args.label 1 (drop 1 l)) (sym c.in-Some.ensures.cases.0))
+    end ∙ sym here ∙ at.invariant.same ∙ ap (λ l. seek 1 c.args.label 1 (drop 1 l)) (sym c.in-Some.ensures.cases.0)
+
+pub returns-clause-value : goal.returns-clause-value
+returns-clause-value c = λ k β m e.
+    bound c.args.image.now k c.args.label β _ m e (returns-clause-seeks c (omega (arith, m.fits.low)))

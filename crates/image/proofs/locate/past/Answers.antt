@@ -1,4 +1,4 @@
-use Rattle.std.proofs.Common.{◌≡◌, ◌+◌, ap, ◌∙◌}
+use Rattle.std.proofs.Common.{◌≡◌, ◌+◌, ap, ◌∙◌, arith}
 use Rattle.std.specs.Option.{unwrap_or}
 use Rattle.calculus.specs.Parts.{size}
 use Rattle.image.proofs.Standing.{at_stands, passed}
@@ -10,4 +10,4 @@ returns-clause-value c = λ t rest a.
     let ws = c.args.words.now in
     let e : c.unwrap_or.result ≡ i + size t =
     c.unwrap_or.ensures ∙ ap (λ o. unwrap_or o i) (c.end_of.ensures.known t (at_stands t rest i ws a)) in
-    passed t rest i _ ws a e
+    passed t rest i _ ws a (omega (arith, e))

@@ -1,9 +1,9 @@
-use Rattle.std.proofs.Common.{◌||◌, eqb, sym, ap, ◌∙◌, rules}
+use Rattle.std.proofs.Common.{◌≡◌, true, false, ◌||◌, eqb, ap, ◌∙◌, arith, rules}
 use Rattle.calculus.specs.Replacement.{replace}
 use Rattle.calculus.specs.Configurations.{◌∣◌}
 use Rattle.image.specs.Reading.{kind_at, label_at}
 use Rattle.writing.proofs.Building.{◌▸◌, rewritten}
-use Rattle.lines.proofs.Sorts.{viewed}
+use Rattle.lines.proofs.Sorts.{kind_of_term, viewed}
 use Rattle.lines.proofs.Binders.{applies, not_applied}
 use Rattle.lines.proofs.Written.{applied_kind, apply_words}
 use Rattle.lines.proofs.redex.Redex.write_apply.Goals as goal
@@ -12,13 +12,15 @@ pub returns-then-not-is_binder : goal.returns-then-not-is_binder
 returns-then-not-is_binder c = λ k K f v (h, q).
     let r = c.args.self.now in
     let e = ap kind_at c.get-function.ensures ∙ applied_kind r.image.now k K r.place r.used f v h q in
-    not_applied f (viewed f) v k.bindings (sym (c.if-not-is_binder.ensures ∙ ap (λ n. eqb n 2 || eqb n 3) e))
+    let n : (eqb (kind_of_term f) 2 || eqb (kind_of_term f) 3) ≡ false = grind (arith) in
+    not_applied f (viewed f) v k.bindings n
 
 pub returns : goal.returns
 returns c = λ k K f v (h, q).
     let r = c.args.self.now in
     let e = ap kind_at c.get-function.ensures ∙ applied_kind r.image.now k K r.place r.used f v h q in
-    let b = applies f (viewed f) (sym (c.if-not-is_binder.ensures ∙ ap (λ n. eqb n 2 || eqb n 3) e)) in (
+    let m : (eqb (kind_of_term f) 2 || eqb (kind_of_term f) 3) ≡ true = grind (arith) in
+    let b = applies f (viewed f) m in (
       replace b.0.x v b.0.b ∣ k.bindings,
       b.1 v k.bindings,
       let w = rewritten
